@@ -18,39 +18,39 @@ use fp_q773::{AbortCause, Tid, ids_of, write_abort};
 use fp_sccp::{MOST_DATA, ReturnCause, UnitData, write_allowed, write_service};
 use std::alloc::{AllocError, Global};
 
-/// What a message of the network comes to.
+/// The result of a message from the network.
 #[derive(Debug, Drop)]
 pub enum Outcome {
     /// Messages for the link.
     HandedOn(HandedOn),
-    /// The octets of a message of SCCP for the connection by which the message came.
+    /// An SCCP message to send back on the same connection.
     Answered(Vec<u8>),
-    /// Nothing.
+    /// No message.
     Nothing,
 }
 
 /// Messages for the link.
 #[derive(Debug, Drop)]
 pub struct HandedOn {
-    /// An Abort, which comes first: the message is a Begin under an identifier by which the exchange knew an open
-    /// dialogue, so it has forgotten that one.
+    /// An Abort to hand on first, if the exchange has forgotten a dialogue: the message is a Begin under its identifier
+    /// of an open dialogue.
     pub abort: Option<Frame>,
     /// The message.
     pub message: Frame,
 }
 
-/// What becomes of a message of the link.
+/// The result of a message from the link.
 #[derive(Debug, Drop)]
 pub enum Sending {
-    /// It goes out.
+    /// The UDT that carries it.
     By(UnitDataBy),
-    /// No connection is there.
+    /// There is no connection.
     NoConnection,
-    /// It has more octets than a UDT may have.
+    /// The message is too long for a UDT.
     TooLong,
 }
 
-/// A message of SCCP for a connection.
+/// An SCCP message for a connection.
 #[derive(Debug, Drop)]
 pub struct UnitDataBy {
     /// The connection.
@@ -59,10 +59,10 @@ pub struct UnitDataBy {
     pub octets: Vec<u8>,
 }
 
-/// The adaptor of a link to a signalling network: it takes messages of SCCP from connections and gives messages of TCAP
+/// The adaptor between a link and a signalling network. It takes SCCP messages from connections and gives TCAP messages
 /// for the link, and the other way round.
 ///
-/// Contracts see it as the events that led to it, and what it answers follows from those alone.
+/// Contracts see the events so far. All answers follow from them alone.
 #[derive(Drop)]
 pub struct Adaptor {
     alloc: Global,
@@ -72,7 +72,7 @@ pub struct Adaptor {
     counts: Counts,
 }
 
-/// The frame of octets, of which there are 1 to 255.
+/// A frame of 1 to 255 octets.
 fn frame_of(alloc: Global, octets: &[u8]) -> Result<Frame, AllocError>
     requires some { 1 ≤ length octets.now }
     requires most { length octets.now ≤ 255 }
@@ -84,7 +84,7 @@ fn frame_of(alloc: Global, octets: &[u8]) -> Result<Frame, AllocError>
     Ok(frame)
 }
 
-/// The Abort that the exchange would send for a dialogue that it doesn't know (Q.774, 3.3.3.1), if there is one.
+/// The Abort that the exchange would send for an unknown dialogue (Q.774, 3.3.3.1), if there is such a dialogue.
 fn abort_of(alloc: Global, local: Option<Tid>) -> Result<Option<Frame>, AllocError>
     ensures { IfOk result (λ abort. abort ≡ option_map abort_octets local) }
 {
@@ -96,7 +96,7 @@ fn abort_of(alloc: Global, local: Option<Tid>) -> Result<Option<Frame>, AllocErr
     Ok(Some(frame))
 }
 
-/// What is answered by these octets, or by none.
+/// The outcome with these octets as the answer, or with none.
 fn answered(octets: Option<Vec<u8>>) -> Outcome
     ensures { Replies result (option_map (λ written. written.items) octets) }
 {
@@ -106,7 +106,7 @@ fn answered(octets: Option<Vec<u8>>) -> Outcome
     }
 }
 
-/// The kind of a message that is refused for this cause.
+/// The counter of a message that is refused for this cause.
 fn refused_as(cause: ReturnCause) -> Counted
     ensures { result ≡ refused_as cause }
 {
@@ -117,7 +117,7 @@ fn refused_as(cause: ReturnCause) -> Counted
     }
 }
 
-/// The kind that a message of the link is counted as.
+/// The counter of a message from the link.
 fn sent_as(sending: &Sending) -> Counted
     ensures { result ≡ sent_as (what_became sending.now) }
 {
@@ -129,7 +129,7 @@ fn sent_as(sending: &Sending) -> Counted
 }
 
 impl Adaptor {
-    /// The adaptor of a link of which nothing is known yet. `Err`: memory ran out.
+    /// A new adaptor for a link, without connections or dialogues. `Err`: out of memory.
     pub fn new(alloc: Global, setting: Setting) -> Result<Adaptor, AllocError>
         ensures led { IfOk result (λ own. Led own setting []) }
     {
@@ -145,7 +145,7 @@ impl Adaptor {
         })
     }
 
-    /// The number of messages of a kind so far.
+    /// The number of messages of this kind so far.
     pub fn count(&self, what: Counted) -> u64
         ensures count { (setting : Setting) (history : List Event) → Led self.now setting history
             → result ≡ count_after history what }
@@ -153,8 +153,8 @@ impl Adaptor {
         self.counts.of(what)
     }
 
-    /// A connection came for a unit, and takes the place of the one that the unit had. A connection to be closed is
-    /// returned: the one that the unit had, or this one if there is no such unit.
+    /// A new connection for a unit replaces the earlier one. Returns a connection to close: the unit's earlier one, or
+    /// this one if there is no such unit.
     pub fn came(&mut self, connection: usize, unit: usize) -> Option<usize>
         ensures came { (setting : Setting) (history : List Event) → Led self.old setting history
             → (more : List Event) × Comes setting history connection unit result more
@@ -166,7 +166,7 @@ impl Adaptor {
         Some(connection)
     }
 
-    /// A connection is over. Its unit has none from now on.
+    /// A connection has ended. Its unit then has none.
     pub fn ended(&mut self, connection: usize)
         ensures ended { (setting : Setting) (history : List Event) → Led self.old setting history
             → Led self.new setting (ended connection ∷ history) }
@@ -174,7 +174,7 @@ impl Adaptor {
         self.connections.remove(connection)
     }
 
-    /// Hands on data.
+    /// Hands on data to the link.
     fn hand_on(&mut self, octets: &[u8]) -> Result<Outcome, AllocError>
         requires some { 1 ≤ length octets.now }
         requires most { length octets.now ≤ 255 }
@@ -190,7 +190,7 @@ impl Adaptor {
         Ok(Outcome::HandedOn(HandedOn { abort, message }))
     }
 
-    /// Answers a message to SCCP management: a test for the node's own subsystem says that it is there.
+    /// Answers a message to SCCP management: a test for the node's own subsystem gets subsystem allowed.
     fn manage(&mut self, message: &UnitData<'_>) -> Result<Outcome, AllocError>
         ensures { IfOk result (λ outcome. (setting : Setting) (history : List Event)
             → Led self.old setting history
@@ -205,7 +205,7 @@ impl Adaptor {
         Ok(answered(answer))
     }
 
-    /// Refuses a message.
+    /// Refuses a message for this cause.
     fn refuse(&mut self, message: &UnitData<'_>, cause: ReturnCause) -> Result<Outcome, AllocError>
         ensures { IfOk result (λ outcome. (setting : Setting) (history : List Event)
             → Led self.old setting history
@@ -217,7 +217,7 @@ impl Adaptor {
         Ok(answered(answer))
     }
 
-    /// Takes a message by its verdict.
+    /// Handles a message by its verdict.
     fn take(&mut self, octets: &[u8]) -> Result<Outcome, AllocError>
         ensures { IfOk result (λ outcome. (setting : Setting) (history : List Event)
             → Led self.old setting history
@@ -239,9 +239,9 @@ impl Adaptor {
         }
     }
 
-    /// A message of SCCP came by a connection. Nothing comes of it if no unit has the connection.
+    /// Handles an SCCP message from a connection. If no unit has the connection, the result is nothing.
     ///
-    /// `Err`: memory ran out, and the link must go down: the adaptor is no longer of use.
+    /// `Err`: out of memory. You must take the link down and drop the adaptor.
     pub fn received(&mut self, connection: usize, octets: &[u8]) -> Result<Outcome, AllocError>
         ensures received { IfOk result (λ outcome. (setting : Setting) (history : List Event)
             → Led self.old setting history
@@ -254,7 +254,7 @@ impl Adaptor {
         Ok(Outcome::Nothing)
     }
 
-    /// The connection by which a message of the link goes now: that of the first unit that has one.
+    /// The connection for the link's next message: the one of the first unit that has one.
     pub fn sends_by(&self) -> Option<usize>
         ensures { (setting : Setting) (history : List Event) → Led self.now setting history
             → IsFirst (connection_after history) result }
@@ -262,7 +262,7 @@ impl Adaptor {
         self.connections.first()
     }
 
-    /// What becomes of a message of the link.
+    /// The result for a message from the link, before it is counted.
     fn sending(&self, octets: &[u8]) -> Result<Sending, AllocError>
         requires { 1 ≤ length octets.now }
         ensures { IfOk result (λ sending. (setting : Setting) (history : List Event)
@@ -279,10 +279,10 @@ impl Adaptor {
         Ok(Sending::By(UnitDataBy { connection, octets }))
     }
 
-    /// Sends a message of the link: in one UDT of class 0, from the node's own address to that of the exchange, by the
-    /// connection of the first unit that has one.
+    /// Sends a message from the link on the connection of the first unit that has one: in one UDT of class 0, from the
+    /// node's own address to the exchange.
     ///
-    /// `Err`: memory ran out, and the link must go down: the adaptor is no longer of use.
+    /// `Err`: out of memory. You must take the link down and drop the adaptor.
     pub fn send(&mut self, message: &Frame) -> Result<Sending, AllocError>
         ensures sent { IfOk result (λ sending. (setting : Setting) (history : List Event)
             → Led self.old setting history

@@ -1,4 +1,4 @@
-//! Which connection each unit has.
+//! The connection of each unit.
 
 ghost use Rattle.std.specs.Prelude.{◌≡◌, ◌<◌, ◌≤◌, ℕ, true, false, IfOk, None, Some, length};
 ghost use Rattle.std.specs.Bool.{Decides};
@@ -6,7 +6,7 @@ ghost use Rattle.fp_adaptor.specs.Connections.{IsFirst, IsHere, connection_at, p
 
 use std::alloc::{AllocError, Global};
 
-/// Whether a unit has this connection, by the one that it has.
+/// Whether this place of a unit holds this connection.
 fn is_this(place: Option<usize>, connection: usize) -> bool
     ensures { Decides result (place ≡ Some connection) }
 {
@@ -16,7 +16,7 @@ fn is_this(place: Option<usize>, connection: usize) -> bool
     }
 }
 
-/// What a unit has once a connection is over.
+/// The place of a unit after this connection has ended.
 fn without(place: Option<usize>, connection: usize) -> Option<usize>
     ensures { result ≡ without connection place }
 {
@@ -33,7 +33,7 @@ pub(crate) struct Connections {
 }
 
 impl Connections {
-    /// This number of units, none of which has a connection.
+    /// The places of this number of units, without connections.
     pub(crate) fn new(alloc: Global, units: usize) -> Result<Connections, AllocError>
         ensures each { IfOk result (λ own. (unit : ℕ)
             → connection_at own.places.items unit ≡ None) }
@@ -78,7 +78,7 @@ impl Connections {
         None
     }
 
-    /// Gives a unit this connection, and returns the one that it had.
+    /// Gives a unit this connection, and returns its earlier one.
     pub(crate) fn put(&mut self, unit: usize, connection: usize) -> Option<usize>
         requires { unit < length self.old.places.items }
         ensures had { result ≡ connection_at self.old.places.items unit }
@@ -91,7 +91,7 @@ impl Connections {
         had
     }
 
-    /// Whether there is a unit of this number.
+    /// Whether there is a unit with this number.
     pub(crate) fn has(&self, unit: usize) -> bool
         ensures yes { result ≡ true → unit < length self.now.places.items }
         ensures no { result ≡ false → length self.now.places.items ≤ unit }
@@ -99,7 +99,7 @@ impl Connections {
         unit < self.places.len()
     }
 
-    /// Takes a connection away from each unit that has it.
+    /// Removes a connection from each unit that has it.
     pub(crate) fn remove(&mut self, connection: usize)
         ensures each { (unit : ℕ) → connection_at self.new.places.items unit
             ≡ without connection (connection_at self.old.places.items unit) }

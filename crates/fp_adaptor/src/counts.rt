@@ -1,4 +1,4 @@
-//! What an adaptor counts.
+//! The counters of an adaptor.
 
 ghost use Rattle.std.specs.Prelude.{◌≡◌, ◌<◌};
 ghost use Rattle.fp_adaptor.specs.Counted.{count_of, counted_once_more, place_of};
@@ -7,30 +7,30 @@ ghost use Rattle.fp_adaptor.specs.declared.counts.Counted.{Counted};
 /// A kind of message that is counted.
 #[derive(Clone, Copy, Debug, PartialEq, Eq)]
 pub enum Counted {
-    /// Handed on to the link.
+    /// Data handed on to the link.
     HandedOn,
-    /// Refused: a segment.
+    /// A refused segment.
     Segment,
-    /// Refused: to another subsystem.
+    /// A refused message to another subsystem.
     OtherSubsystem,
-    /// Refused: from another address.
+    /// A refused message from another address.
     OtherSender,
-    /// To SCCP management.
+    /// A message to SCCP management.
     Management,
-    /// A UDTS: a message of the link came back.
+    /// A UDTS: a message of the link was returned.
     Returned,
     /// Octets that are no message.
     Unreadable,
     /// A message of the link that was sent.
     Sent,
-    /// A message of the link for which no connection was there.
+    /// A message of the link that was dropped, as there was no connection.
     Dropped,
     /// A message of the link that is too long for a UDT.
     TooLong,
 }
 
 impl Counted {
-    /// Its place among the numbers.
+    /// The position of the kind among the numbers.
     fn place(self) -> usize
         ensures value { result ≡ place_of self }
         ensures range { place_of self < 10 }
@@ -50,21 +50,21 @@ impl Counted {
     }
 }
 
-/// The number of messages of each kind, from the beginning of a link. A number stays at the greatest one of 64 bits.
+/// The number of messages of each kind since the link began. A number stops at 2^64 - 1.
 #[derive(Clone, Copy, Debug)]
 pub(crate) struct Counts {
     numbers: [u64; 10],
 }
 
 impl Counts {
-    /// No messages.
+    /// Counters at 0.
     pub(crate) fn new() -> Counts
         ensures { (what : Counted) → count_of result what ≡ 0 }
     {
         Counts { numbers: [0; 10] }
     }
 
-    /// The number of messages of a kind.
+    /// The number of messages of this kind.
     pub(crate) fn of(&self, what: Counted) -> u64
         ensures { result ≡ count_of self.now what }
     {

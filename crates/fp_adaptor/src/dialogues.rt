@@ -12,8 +12,8 @@ use std::collections::BTreeMap;
 /// A transaction identifier as the key of a map.
 type Key = Octets<4>;
 
-/// The dialogues that the link continued and neither side ended since. Two maps lead from each side's identifier to the
-/// other side's.
+/// The dialogues that the link has continued and that are still open. One map leads from the link's identifier to the
+/// exchange's, the other one back.
 #[derive(Drop)]
 pub(crate) struct Dialogues {
     by_local: BTreeMap<Key, Key>,
@@ -61,7 +61,7 @@ fn finished(ids: &Ids) -> Option<Tid>
 }
 
 impl Dialogues {
-    /// No dialogue. Takes no memory.
+    /// An empty list. Takes no memory.
     pub(crate) fn new(alloc: Global) -> Dialogues
         ensures { Sees result is_none }
     {
@@ -71,7 +71,7 @@ impl Dialogues {
         }
     }
 
-    /// The link's identifier of the dialogue that the exchange knows by this one.
+    /// The link's identifier of a dialogue, by the exchange's.
     fn local_of(&self, exchange: Option<Tid>) -> Option<Tid>
         ensures { (known : List ℕ → Option (List ℕ)) → Sees self.now known
             → HasLocal known exchange result }
@@ -83,8 +83,8 @@ impl Dialogues {
         self.by_exchange.get(&key).copied()
     }
 
-    /// The link's identifier of the dialogue that the exchange forgot: it sends a Begin under the identifier by which it
-    /// knew an open one.
+    /// The link's identifier of a dialogue that the exchange forgot: the message is a Begin, and the exchange knew an
+    /// open dialogue by the same identifier.
     pub(crate) fn forgotten(&self, ids: &Ids) -> Option<Tid>
         ensures { (known : List ℕ → Option (List ℕ)) → Sees self.now known
             → IsForgotten known ids.now.kind ids.now.orig result }
@@ -92,7 +92,7 @@ impl Dialogues {
         self.local_of(begun(ids))
     }
 
-    /// Forgets the dialogue that the exchange knows by this identifier.
+    /// Forgets the dialogue with this identifier of the exchange.
     fn forget_exchange(&mut self, exchange: Option<Tid>)
         ensures { (known : List ℕ → Option (List ℕ)) → Sees self.old known
             → Sees self.new (λ local. unless_exchange exchange (known local)) }
@@ -107,7 +107,7 @@ impl Dialogues {
         let _forgotten = self.by_local.remove(&key_of(&local));
     }
 
-    /// Forgets the dialogue that the link knows by this identifier.
+    /// Forgets the dialogue with this identifier of the link.
     fn forget_local(&mut self, local: Option<Tid>)
         ensures { (known : List ℕ → Option (List ℕ)) → Sees self.old known
             → Sees self.new (λ other. unless_local local other (known other)) }
@@ -122,7 +122,8 @@ impl Dialogues {
         let _forgotten = self.by_exchange.remove(&exchange);
     }
 
-    /// Notes a dialogue by both identifiers. What either named before is forgotten. `Err`: memory ran out.
+    /// Adds a dialogue with both identifiers, in place of any earlier dialogue with either of them. `Err`: out of
+    /// memory.
     fn open(&mut self, local: Tid, exchange: Tid) -> Result<(), AllocError>
         ensures { OnOk result ((known : List ℕ → Option (List ℕ)) → Sees self.old known
             → Sees self.new (λ other. opened local exchange other (known other))) }
@@ -136,7 +137,7 @@ impl Dialogues {
         Ok(())
     }
 
-    /// Notes a dialogue that the link continues, if there are both identifiers. `Err`: memory ran out.
+    /// Adds a dialogue that the link continues, if both identifiers are there. `Err`: out of memory.
     fn open_both(&mut self, local: Option<Tid>, exchange: Option<Tid>) -> Result<(), AllocError>
         ensures { OnOk result ((known : List ℕ → Option (List ℕ)) → Sees self.old known
             → Sees self.new (λ other. said_both local exchange other (known other))) }
@@ -150,7 +151,7 @@ impl Dialogues {
         self.open(local, exchange)
     }
 
-    /// Follows a message of the exchange.
+    /// Follows a message from the exchange.
     pub(crate) fn hear(&mut self, ids: &Ids)
         ensures { (known : List ℕ → Option (List ℕ)) → Sees self.old known
             → Sees self.new (λ local.
@@ -160,7 +161,7 @@ impl Dialogues {
         self.forget_local(finished(ids));
     }
 
-    /// Follows a message of the link. `Err`: memory ran out.
+    /// Follows a message from the link. `Err`: out of memory.
     pub(crate) fn say(&mut self, ids: &Ids) -> Result<(), AllocError>
         ensures { OnOk result ((known : List ℕ → Option (List ℕ)) → Sees self.old known
             → Sees self.new (λ local.

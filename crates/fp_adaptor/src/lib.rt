@@ -1,40 +1,41 @@
-//! The adaptor of a link to a signalling network (ITU-T Q.711 to Q.714, Q.771): from messages of SCCP to messages of
-//! TCAP, and back.
+//! The adaptor between a link and a signalling network (ITU-T Q.711 to Q.714, Q.771): from SCCP messages to TCAP
+//! messages, and back.
 //!
-//! The layer is handed events, one call each, and gives actions. It asks the system for nothing except memory: it opens
-//! no connection, and knows no moment. It knows a connection by a number, and what carries the messages of SCCP on it
-//! only by the unit that was named on it; so IPA can be below it, or M3UA.
+//! This layer takes events, one call each, and gives actions. It asks the system only for memory: it opens no
+//! connection and has no clock. A connection is a number here, with the unit that was named on it. Below may be IPA, or
+//! M3UA.
 //!
-//! * [`Adaptor`] is a link between two addresses, its [`Setting`]. Its connections come and go, and it outlives them.
-//! * [`Setting::judge`] is the verdict on a message that comes.
+//! * [`Adaptor`] is a link between two addresses, its [`Setting`]. It outlives its connections.
+//! * [`Setting::judge`] is the verdict on a received message.
 //! * [`Adaptor::count`] gives the number of messages of a kind.
 //!
-//! | Event | Call | What comes of it |
+//! | Event | Call | Result |
 //! |---|---|---|
-//! | a connection comes for a unit | [`Adaptor::came`] | the earlier connection of the unit is closed |
-//! | a connection is over | [`Adaptor::ended`] | nothing: the link stays |
+//! | a connection opens for a unit | [`Adaptor::came`] | the earlier connection of the unit is closed |
+//! | a connection ends | [`Adaptor::ended`] | nothing: the link stays |
 //! | data to the node's own subsystem, from the exchange | [`Adaptor::received`] | handed on to the link |
-//! | a Begin among them whose identifier an open dialogue has | | handed on after an Abort for that dialogue |
+//! | a Begin in such data, under the identifier of an open dialogue | | handed on after an Abort for that dialogue |
 //! | a subsystem test for the own subsystem | | answered: subsystem allowed |
-//! | a segment | | returned by cause 10, if that is wanted |
-//! | data to another subsystem | | returned by cause 4, if that is wanted |
-//! | data from another address | | returned by cause 7, if that is wanted |
+//! | a segment | | returned with cause 10, if the sender asks for that |
+//! | data to another subsystem | | returned with cause 4, if the sender asks for that |
+//! | data from another address | | returned with cause 7, if the sender asks for that |
 //! | a UDTS, or octets that are no message | | counted |
-//! | any message of a connection that no unit has | | nothing |
-//! | a message of the link | [`Adaptor::send`] | goes out in one UDT, by the connection of the first unit that has one |
-//! | a message of the link, while no connection is there | | dropped, and counted |
+//! | any message on a connection that no unit has | | nothing |
+//! | a message from the link | [`Adaptor::send`] | one UDT on the connection of the first unit that has one |
+//! | a message from the link, without any connection | | dropped, and counted |
 //!
-//! The layer above may rely on this: contracts see an [`Adaptor`] as the events that led to it (`specs/History.antt`),
-//! and each answer follows from those alone (`specs/Adaptor.antt`). So what is handed on are the data of the messages
-//! to this subsystem from the exchange, in the order in which they came, each once, and nothing else but the Aborts.
-//! A dialogue is open from the Continue by which the link first says its own identifier, until either side sends an
-//! End or an Abort, the exchange a Begin under its identifier of it, or the link a Continue of another dialogue under
-//! that identifier (`specs/Dialogues.antt`).
+//! The layer above may rely on this: contracts see an [`Adaptor`] as the events so far (`specs/History.antt`), and each
+//! answer follows from them alone (`specs/Adaptor.antt`). So the link gets the data of all messages to this subsystem
+//! from the exchange, in order, each once, and nothing else except the Aborts. A dialogue is open from the Continue
+//! that first carries the link's own identifier. It ends with an End or an Abort of either side, with a Begin of the
+//! exchange under its identifier of the dialogue, or with a Continue of the link for another dialogue under that
+//! identifier (`specs/Dialogues.antt`). For example, if an exchange restarts and sends a Begin under 00 00 00 07 again,
+//! the link first gets an Abort for its open dialogue with that identifier.
 //!
-//! Holding messages back, and refusing those that wait for too long, is the part of the layer in which they wait: the
-//! adaptor keeps no message. To drain a node, the thread that drives the adaptor shuts the sending side of the connection
-//! of the unit that several nodes have in common, once messages go by another one ([`Adaptor::sends_by`]), calls
-//! [`Adaptor::ended`] when that connection is closed, and accepts no other one for that unit.
+//! The adaptor keeps no message: the layer with the queue holds messages back, and refuses them if they wait too long.
+//! To drain a node, its thread must first see that messages use another connection ([`Adaptor::sends_by`]). Then it
+//! shuts the sending side of the connection of the unit that several nodes share, calls [`Adaptor::ended`] when that
+//! connection is closed, and accepts no other one for that unit.
 #![tactic(auto)]
 
 mod adaptor;

@@ -1,4 +1,4 @@
-//! The addresses of a link, and the verdict on a message that comes for it.
+//! The addresses of a link, and the verdict on a received message.
 
 ghost use Rattle.std.specs.Prelude.{◌≡◌, ◌≤◌, IfOk, SomeIff, length};
 ghost use Rattle.fp_adaptor.specs.Verdict.{HasDataSize, Judges, JudgesWhole, verdict_of};
@@ -13,29 +13,29 @@ use fp_sccp::{
 };
 use std::alloc::{AllocError, Global};
 
-/// The addresses between which the messages of a link go, and how many units the exchange's side may name.
+/// The addresses at both ends of a link, and the number of units that the exchange's side may name.
 #[derive(Clone, Copy, Debug)]
 pub struct Setting {
-    /// The node's own address. Messages are sent from it, and those to its subsystem are taken. If it has no subsystem
-    /// number, none are.
+    /// The node's own address. Messages are sent from it, and messages to its subsystem are taken. Without a subsystem
+    /// number none are.
     pub own: Address,
-    /// The address of the exchange. Messages are sent to it, and those from it are taken.
+    /// The address of the exchange. Messages are sent to it, and messages from it are taken.
     pub exchange: Address,
-    /// The number of units, each of which may have a connection. They come in the order in which they are preferred for
-    /// sending: the node's own first, and then one that several nodes have in common.
+    /// The number of units, each with at most one connection. A lower unit is preferred for sending: the node's own
+    /// unit is the first, then the one that several nodes share.
     pub units: usize,
 }
 
-/// What a message of SCCP is for a link.
+/// The verdict on an SCCP message for a link.
 #[derive(Clone, Copy, Debug)]
 pub enum Judged<'a> {
     /// Data for the link: 1 to 255 octets.
     HandedOn(&'a [u8]),
     /// A message to SCCP management.
     Management(UnitData<'a>),
-    /// A message that the link doesn't take, and why.
+    /// A message that the link refuses, and the cause.
     Refused(UnitData<'a>, ReturnCause),
-    /// Data that this node sent and that couldn't be delivered.
+    /// Data of this node that couldn't be delivered.
     Returned,
     /// Octets that are no message.
     Unreadable(SccpFault),
@@ -73,8 +73,8 @@ impl Setting {
         Judged::HandedOn(message.user_data)
     }
 
-    /// The verdict on a message that came (Q.714, 2.4, 4.2 and 5.3): data are for the link if the message is whole, to
-    /// the subsystem of the node's own address, and from the address of the exchange.
+    /// The verdict on a received message (Q.714, 2.4, 4.2 and 5.3). Its data are for the link if the message is whole,
+    /// to the subsystem of the node's own address, and from the address of the exchange.
     pub fn judge<'a>(&self, octets: &'a [u8]) -> Judged<'a>
         ensures verdict { Judges self.now octets.now (verdict_of result) }
         ensures size { HasDataSize (verdict_of result) }
@@ -88,8 +88,8 @@ impl Setting {
             Err(fault) => Judged::Unreadable(fault),
         }
     }
-    /// A message of the link in a UDT of class 0, from the node's own address to that of the exchange. `Err`: memory ran
-    /// out.
+    /// Puts a message from the link into a UDT of class 0, from the node's own address to the exchange. `Err`: out of
+    /// memory.
     pub(crate) fn unit_data(&self, alloc: Global, message: &[u8]) -> Result<Vec<u8>, AllocError>
         requires some { 1 ≤ length message.now }
         requires most { length message.now ≤ MOST_DATA }

@@ -16,16 +16,16 @@ const AARQ: u16 = 0;
 /// The number of the context tag of user information.
 const USER_INFORMATION: u16 = 30;
 
-/// What an AARQ asks for.
+/// The fields of an AARQ.
 #[derive(Clone, Copy)]
 pub(crate) struct Aarq {
-    /// Whether its protocol version, which is version 1 by default, has version 1.
+    /// Whether it offers version 1: by its protocol version, or because it has none.
     pub(crate) offers_version_1: bool,
-    /// Its application context name.
+    /// The application context name.
     pub(crate) name: Name,
 }
 
-/// Whether these are user information, or nothing. What user information holds isn't looked at.
+/// Whether these are user information, or nothing. The contents of user information aren't read.
 fn is_user_information(members: &Elements<'_>) -> bool
     ensures { IsTrue result ↔ ((information : Option Trees) × (lent_trees members.now ≡ user_information information)) }
 {
@@ -41,7 +41,7 @@ fn is_user_information(members: &Elements<'_>) -> bool
         .is_some()
 }
 
-/// The name in the members of an AARQ after its protocol version.
+/// Reads the name from the members of an AARQ after its protocol version.
 fn name_in(members: &Elements<'_>) -> Option<Name>
     ensures { MatchOption result
         ((name : List ℕ) (information : Option Trees) → IsName name
@@ -57,7 +57,7 @@ fn name_in(members: &Elements<'_>) -> Option<Name>
     Some(name)
 }
 
-/// What an AARQ asks for; `None` for any other element.
+/// Reads an AARQ; `None` for any other element.
 pub(crate) fn read(apdu: &ElementRef<'_>) -> Option<Aarq>
     ensures { MatchOption result
         ((version : Option (List ℕ)) (name : List ℕ) → IsAarq (lent_tree apdu.now) version name → ⊥)

@@ -6,7 +6,7 @@ ghost use Rattle.fp_apdu.specs.BitString.{IsBitString, HasFirstBit};
 /// The most bits that may be unused in the last octet.
 const MOST_UNUSED: u8 = 7;
 
-/// Whether the bit string of these contents octets has its first bit; `None` where they are no bit string's.
+/// Whether the first bit of a bit string with these contents is there and set; `None` if they aren't a bit string.
 pub(crate) fn first_bit(octets: &[u8]) -> Option<bool>
     ensures { MatchOption result (¬ IsBitString octets.now)
         (λ first. IsBitString octets.now × (IsTrue first ↔ HasFirstBit octets.now)) }

@@ -14,7 +14,7 @@ use std::alloc::AllocError;
 /// The number of the context tag of an application context name.
 const APPLICATION_CONTEXT_NAME: u16 = 1;
 
-/// The name in an application context name.
+/// Reads an application context name.
 pub(crate) fn read(element: &ElementRef<'_>) -> Option<Name>
     ensures { MatchOption result ((name : List ℕ) → IsName name → lent_tree element.now ≡ application_context_name name → ⊥)
         (λ name. (lent_tree element.now ≡ application_context_name name) × IsName name) }
@@ -24,7 +24,7 @@ pub(crate) fn read(element: &ElementRef<'_>) -> Option<Name>
     Name::new(octets)
 }
 
-/// Puts the application context name of these octets before what is there.
+/// Puts the application context name with these octets before the others.
 pub(crate) fn write(name: &[u8], out: &mut Writer) -> Result<(), AllocError>
     ensures ok { OnOk result (out.new ≡ canon (application_context_name name.now) ++ out.old) }
     ensures stays { EndsWith out.new out.old }

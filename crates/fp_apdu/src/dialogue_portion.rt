@@ -22,7 +22,7 @@ const SINGLE_ASN1_TYPE: u16 = 0;
 /// {itu-t recommendation q 773 as(1) dialogue-as(1) version1(1)}.
 const DIALOGUE_AS: [u8; 7] = [0x00, 0x11, 0x86, 0x05, 0x01, 0x01, 0x01];
 
-/// The APDU in an EXTERNAL (X.690, 8.18).
+/// Reads the APDU in an EXTERNAL (X.690, 8.18).
 fn in_external<'a>(element: &ElementRef<'a>) -> Option<ElementRef<'a>>
     ensures { MatchOption result ((apdu : Tree) → lent_tree element.now ≡ external apdu → ⊥)
         (λ apdu. lent_tree element.now ≡ external (lent_tree apdu)) }
@@ -37,7 +37,7 @@ fn in_external<'a>(element: &ElementRef<'a>) -> Option<ElementRef<'a>>
     only_in(&encoding, Class::Context, SINGLE_ASN1_TYPE)
 }
 
-/// The APDU in a dialogue portion of structured dialogue.
+/// Reads the APDU in a dialogue portion of structured dialogue.
 pub(crate) fn read<'a>(portion: &ElementRef<'a>) -> Option<ElementRef<'a>>
     ensures { MatchOption result ((apdu : Tree) → lent_tree portion.now ≡ dialogue_portion apdu → ⊥)
         (λ apdu. lent_tree portion.now ≡ dialogue_portion (lent_tree apdu)) }
@@ -46,8 +46,8 @@ pub(crate) fn read<'a>(portion: &ElementRef<'a>) -> Option<ElementRef<'a>>
     in_external(&external)
 }
 
-/// Puts tags, lengths and the name of the abstract syntax before an APDU, so that with the APDU after them they are a
-/// dialogue portion. All octets but the last ones, `behind` in number, are those of the APDU.
+/// Completes a dialogue portion. You must first put its APDU; the last `behind` octets, which were there before, lie
+/// after the portion.
 pub(crate) fn write(behind: usize, out: &mut Writer) -> Result<(), AllocError>
     requires { (apdu : Tree) × (rest : List ℕ) × (out.old ≡ canon apdu ++ rest) × (length rest ≡ behind) }
     ensures ok { (apdu : Tree) (rest : List ℕ) → out.old ≡ canon apdu ++ rest → length rest ≡ behind

@@ -1,4 +1,4 @@
-//! The elements that an element holds.
+//! The elements in an element.
 
 ghost use Rattle.std.specs.Prelude.{◌≡◌, MatchOption};
 ghost use Rattle.fp_ber.specs.Tree.{Tree, constructed, none, more};
@@ -6,7 +6,7 @@ ghost use Rattle.fp_ber.specs.Lent.{lent_tree, lent_trees};
 
 use fp_ber::{Class, ElementRef, Elements};
 
-/// The one element of these; `None` for none and for several.
+/// The only element; `None` if there are none or several.
 pub(crate) fn only<'a>(elements: &Elements<'a>) -> Option<ElementRef<'a>>
     ensures { MatchOption result ((t : Tree) → lent_trees elements.now ≡ more t none → ⊥)
         (λ element. lent_trees elements.now ≡ more (lent_tree element) none) }
@@ -18,7 +18,7 @@ pub(crate) fn only<'a>(elements: &Elements<'a>) -> Option<ElementRef<'a>>
     Some(split.first)
 }
 
-/// The one element in a constructed element of this tag; `None` for any other element.
+/// The only element in a constructed element with this tag; `None` for any other element.
 pub(crate) fn only_in<'a>(
     parent: &ElementRef<'a>,
     class: Class,

@@ -6,9 +6,9 @@ ghost use Rattle.fp_apdu.specs.Name.{IsName};
 use fp_octets::Octets;
 use std::marker::Model;
 
-/// An application context name (Q.773, 4.2.3): 1 to 64 octets, the contents of an object identifier, kept as
-/// they came. They needn't be those that X.690, 8.19 has. Contracts see it as their list, and two are equal exactly
-/// where they have the same octets.
+/// An application context name (Q.773, 4.2.3): 1 to 64 octets, the contents of an object identifier, kept as received.
+/// They needn't follow X.690, 8.19. Contracts see it as their list, and two are equal exactly if they have the same
+/// octets.
 #[derive(Clone, Copy, Debug, PartialEq, Eq)]
 pub struct Name {
     octets: Octets<64>,
@@ -29,10 +29,10 @@ impl Model for Name {
 }
 
 impl Name {
-    /// How many octets there may be.
+    /// The most octets of a name.
     pub const MOST: usize = 64;
 
-    /// The name of these octets; `None` for no octets and for more than [`Name::MOST`].
+    /// The name of these octets; `None` if there are none or more than [`Name::MOST`].
     pub fn new(octets: &[u8]) -> Option<Name>
         ensures { MatchOption result (¬ IsName octets.now) (λ name. name ≡ octets.now) }
     {

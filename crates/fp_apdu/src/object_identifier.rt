@@ -1,4 +1,4 @@
-//! Object identifiers (X.690, 8.19), whose octets aren't looked at.
+//! Object identifiers (X.690, 8.19). Their octets aren't checked.
 
 ghost use Rattle.std.specs.Prelude.{◌≡◌, ◌++◌, List, ℕ, MatchOption, OnOk};
 ghost use Rattle.fp_ber.specs.Canon.{canon};
@@ -10,7 +10,7 @@ use fp_ber::universal::OBJECT_IDENTIFIER;
 use fp_ber::{Class, ElementRef, Writer};
 use std::alloc::AllocError;
 
-/// The octets of an object identifier.
+/// Reads the octets of an object identifier.
 pub(crate) fn read<'a>(element: &ElementRef<'a>) -> Option<&'a [u8]>
     ensures { MatchOption result ((octets : List ℕ) → lent_tree element.now ≡ object_identifier octets → ⊥)
         (λ octets. lent_tree element.now ≡ object_identifier octets.now) }
@@ -18,7 +18,7 @@ pub(crate) fn read<'a>(element: &ElementRef<'a>) -> Option<&'a [u8]>
     element.octets_with_tag(Class::Universal, OBJECT_IDENTIFIER)
 }
 
-/// Puts the object identifier of these octets before what is there.
+/// Puts the object identifier with these octets before the others.
 pub(crate) fn write(octets: &[u8], out: &mut Writer) -> Result<(), AllocError>
     ensures ok { OnOk result (out.new ≡ canon (object_identifier octets.now) ++ out.old) }
     ensures stays { EndsWith out.new out.old }

@@ -15,7 +15,7 @@ const PROTOCOL_VERSION: u16 = 0;
 /// The bit string of version 1 alone: seven unused bits, and one bit.
 const VERSION_1: [u8; 2] = [7, 0x80];
 
-/// The contents octets of a protocol version.
+/// Reads the contents octets of a protocol version.
 pub(crate) fn read<'a>(element: &ElementRef<'a>) -> Option<&'a [u8]>
     ensures { MatchOption result ((octets : List ℕ) → lent_tree element.now ≡ protocol_version octets → ⊥)
         (λ octets. lent_tree element.now ≡ protocol_version octets.now) }
@@ -23,7 +23,7 @@ pub(crate) fn read<'a>(element: &ElementRef<'a>) -> Option<&'a [u8]>
     element.octets_with_tag(Class::Context, PROTOCOL_VERSION)
 }
 
-/// Puts the protocol version of version 1 alone before what is there.
+/// Puts the protocol version of version 1 alone before the octets.
 pub(crate) fn write(out: &mut Writer) -> Result<(), AllocError>
     ensures ok { OnOk result (out.new ≡ canon (protocol_version version_1) ++ out.old) }
     ensures stays { EndsWith out.new out.old }

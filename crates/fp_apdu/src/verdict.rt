@@ -1,11 +1,11 @@
-//! What is answered to a request for a dialogue.
+//! The verdict on a request for a dialogue.
 
 ghost use Rattle.std.specs.Prelude.{◌≡◌};
 ghost use Rattle.fp_apdu.specs.Verdict.{associate_result, source, diagnostic};
 
-/// The result of a dialogue that is accepted.
+/// The result of an accepted dialogue.
 const ACCEPTED: u8 = 0;
-/// The result of a dialogue that is rejected for good.
+/// The result of a permanently rejected dialogue.
 const REJECT_PERMANENT: u8 = 1;
 
 /// The number of the context tag of a diagnostic of the dialogue service user.
@@ -13,11 +13,11 @@ const DIALOGUE_SERVICE_USER: u16 = 1;
 /// The number of the context tag of a diagnostic of the dialogue service provider.
 const DIALOGUE_SERVICE_PROVIDER: u16 = 2;
 
-/// The user's diagnostic of nothing.
+/// The user's diagnostic: null.
 const NULL: u8 = 0;
-/// The user's diagnostic of a name that it doesn't support.
+/// The user's diagnostic: the name isn't supported.
 const APPLICATION_CONTEXT_NAME_NOT_SUPPORTED: u8 = 2;
-/// The provider's diagnostic of a version that it doesn't have.
+/// The provider's diagnostic: no common version.
 const NO_COMMON_DIALOGUE_PORTION: u8 = 2;
 
 /// The answer to a request for a dialogue, with its reason (Q.773, 4.2.3).
@@ -25,9 +25,9 @@ const NO_COMMON_DIALOGUE_PORTION: u8 = 2;
 pub enum Verdict {
     /// The dialogue is accepted.
     Accepted,
-    /// The application context name isn't supported: the service user rejects the dialogue for good.
+    /// The service user rejects the dialogue permanently, as it doesn't support the application context name.
     NoName,
-    /// No version of the dialogue portion is common: the service provider rejects the dialogue for good.
+    /// The service provider rejects the dialogue permanently, as no version of the dialogue portion is common.
     NoVersion,
 }
 

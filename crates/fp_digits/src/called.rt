@@ -10,25 +10,25 @@ ghost use Rattle.fp_digits.specs.Number.{number_of};
 use crate::number::read;
 use crate::{CalledOctets, NatureOfAddress, NoNumber, Number};
 
-/// The number in the contents octets of a called party number (ITU-T Q.763, 3.9).
+/// The number in the contents octets of a called party number (ITU-T Q.763, 3.9). For example, `83 10 08 10 02` is the
+/// national number 80012.
 ///
-/// The second octet, the internal network number indicator and the numbering plan, is not tested. The
-/// error is [`NoNumber`].
+/// The second octet, the internal network number indicator and the numbering plan, isn't checked. The error is
+/// [`NoNumber`].
 pub fn read_called(octets: &[u8]) -> Result<Number, NoNumber>
     ensures { result_ok result ≡ number_of octets.now }
 {
     read(octets)
 }
 
-/// Routing to an internal network number is allowed, and the numbering plan is that of E.164.
+/// Routing to an internal network number is allowed, and the numbering plan is E.164.
 const PLAN: u8 = 0x10;
 
-/// The contents octets of a called party number (ITU-T Q.763, 3.9) with these digits: 1 to 15 of them,
+/// The contents octets of a called party number (ITU-T Q.763, 3.9) with these digits. You must pass 1 to 15 digits,
 /// each 0 to 9.
 ///
-/// The nature of address is national, the numbering plan that of E.164, routing to an internal network
-/// number is allowed, and the filler of an odd number of digits is 0. [`read_called`] gives the digits
-/// back.
+/// The nature of address is national, the numbering plan is E.164, routing to an internal network number is allowed,
+/// and the filler after an odd number of digits is 0. [`read_called`] gives the same digits.
 #[tactic(auto, using(crate::proofs::ReadBack::reads_back), unfolding(crate::specs::Called::called_octets))]
 pub fn write_called(digits: &[u8]) -> CalledOctets
     requires some { 1 ≤ length digits.now }

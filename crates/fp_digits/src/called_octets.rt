@@ -7,8 +7,8 @@ ghost use Rattle.fp_digits.specs.Called.{octets_of_digits};
 use fp_octets::Octets;
 use std::marker::Model;
 
-/// The contents octets of a called party number (ITU-T Q.763, 3.9), at most 10 of them. Contracts see them
-/// as a list, and two are equal exactly where they have the same octets.
+/// The contents octets of a called party number (ITU-T Q.763, 3.9), at most 10 of them. Contracts see them as a list,
+/// and two are equal exactly if they have the same octets.
 #[derive(Clone, Copy, Debug, PartialEq, Eq)]
 pub struct CalledOctets {
     octets: Octets<10>,
@@ -27,7 +27,7 @@ impl Model for CalledOctets {
 }
 
 impl CalledOctets {
-    /// How many octets there may be: two, and eight for 15 digits.
+    /// The most octets: two, and eight for 15 digits.
     pub const MOST: usize = 10;
 
     /// The octets, at most [`CalledOctets::MOST`] of them.
@@ -53,7 +53,7 @@ impl CalledOctets {
         self.octets.push(octet);
     }
 
-    /// Puts digits, two in an octet, and 0 after the last one of an odd number.
+    /// Appends digits, two in an octet, and 0 after the last one of an odd number.
     pub(crate) fn push_digits(&mut self, digits: &[u8])
         requires room { length self.old + (length digits.now + 1) / 2 ≤ Self.MOST }
         requires digits { All (λ digit. digit < 10) digits.now }

@@ -3,7 +3,7 @@
 ghost use Rattle.std.specs.Prelude.{◌≡◌, ◌<◌};
 ghost use Rattle.fp_digits.specs.Cause.{cause_value};
 
-/// The causes of ITU-T Q.850 that are used here, by their names and cause values (Q.850, 2.2.7).
+/// The causes of ITU-T Q.850 in use here, by their names and cause values (Q.850, 2.2.7).
 #[derive(Clone, Copy, Debug, PartialEq, Eq)]
 pub enum Cause {
     /// No. 3, no route to destination: the network does not serve the destination.

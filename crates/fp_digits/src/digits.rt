@@ -6,9 +6,9 @@ ghost use Rattle.std.specs.List.{All};
 use fp_octets::Octets;
 use std::marker::Model;
 
-/// At most 32 digits, each 0 to 15, in the order in which they are dialled (ITU-T Q.763, 3.9 e: 0 to 9
-/// are the decimal digits, 11 and 12 the codes 11 and 12, 15 the end of the number). Contracts see them
-/// as a list, and two are equal exactly where they have the same digits.
+/// At most 32 digits, each 0 to 15, in the order of dialling (ITU-T Q.763, 3.9 e: 0 to 9 are the decimal digits, 11 and
+/// 12 the codes 11 and 12, 15 the end of the number). Contracts see them as a list, and two are equal exactly if they
+/// have the same digits.
 #[derive(Clone, Copy, Debug, PartialEq, Eq)]
 pub struct Digits {
     octets: Octets<32>,
@@ -30,10 +30,10 @@ impl Model for Digits {
 }
 
 impl Digits {
-    /// How many digits there may be: two in each of the 16 octets of the longest number.
+    /// The most digits: two in each of the 16 octets of the longest number.
     pub const MOST: usize = 32;
 
-    /// No digit.
+    /// No digits.
     pub fn new() -> Digits
         ensures { result ≡ [] }
     {
@@ -42,14 +42,14 @@ impl Digits {
         }
     }
 
-    /// How many digits there are.
+    /// The number of digits.
     pub fn len(&self) -> usize
         ensures { result ≡ length self.now }
     {
         self.octets.len()
     }
 
-    /// Whether there is no digit.
+    /// Whether there are no digits.
     pub fn is_empty(&self) -> bool
         ensures { IsTrue result ↔ (self.now ≡ []) }
     {
@@ -65,7 +65,7 @@ impl Digits {
         self.octets.as_slice()
     }
 
-    /// Puts a digit, 0 to 15, after the others. There is room for it.
+    /// Appends a digit, 0 to 15. You must leave room for it.
     pub fn push(&mut self, digit: u8)
         requires room { length self.old < Self.MOST }
         requires digit { digit < 16 }
@@ -74,7 +74,7 @@ impl Digits {
         self.octets.push(digit);
     }
 
-    /// Takes the last digit away. There is one.
+    /// Removes the last digit. There must be one.
     pub fn drop_last(&mut self)
         requires { 0 < length self.old }
         ensures { self.new ≡ take (length self.old - 1) self.old }

@@ -5,8 +5,8 @@ ghost use Rattle.std.specs.Option.{SomeIff};
 
 use std::marker::Model;
 
-/// A moment, as milliseconds since 1970-01-01T00:00:00Z. Each moment lies before the year 2100.
-/// Contracts see it as that number.
+/// A moment, in milliseconds since 1970-01-01T00:00:00Z, before the year 2100. Contracts see it as
+/// that number.
 #[derive(Clone, Copy, Debug, PartialEq, Eq, PartialOrd, Ord)]
 pub struct Moment {
     milliseconds: u64,
@@ -26,11 +26,11 @@ impl Model for Moment {
 }
 
 impl Moment {
-    /// 2100-01-01T00:00:00Z in milliseconds since 1970-01-01T00:00:00Z: each moment lies before it.
+    /// 2100-01-01T00:00:00Z in milliseconds since 1970-01-01T00:00:00Z. Each moment is before it.
     pub const END: u64 = 4_102_444_800_000;
 
-    /// The moment this number of milliseconds after 1970-01-01T00:00:00Z, or `None` exactly at
-    /// [`Moment::END`] and above.
+    /// The moment this number of milliseconds after 1970-01-01T00:00:00Z. `None` exactly from
+    /// [`Moment::END`] on.
     pub fn new(milliseconds: u64) -> Option<Moment>
         ensures { SomeIff result (milliseconds < Self.END) milliseconds }
     {

@@ -4,8 +4,8 @@ ghost use Rattle.std.specs.Prelude.{◌≡◌, ℕ, ◌<◌};
 
 use std::marker::Model;
 
-/// The nature of address of a number (ITU-T Q.763, 3.9 b): how its digits are to be understood. Any of
-/// 0 to 127 is kept as it is. Contracts see it as that number.
+/// The nature of address of a number (ITU-T Q.763, 3.9 b), which says how to understand its digits. Any code from 0 to
+/// 127 is kept unchanged. Contracts see it as that code.
 #[derive(Clone, Copy, Debug, PartialEq, Eq)]
 pub struct NatureOfAddress {
     code: u8,
@@ -28,7 +28,7 @@ impl NatureOfAddress {
     /// An international number, code 4.
     pub const INTERNATIONAL: NatureOfAddress = NatureOfAddress { code: 4 };
 
-    /// The nature of address with this code, which is below 128.
+    /// The nature of address with this code, which must be below 128.
     pub fn new(code: u8) -> NatureOfAddress
         requires { code < 128 }
         ensures { result ≡ code }

@@ -8,17 +8,17 @@ ghost use Rattle.fp_digits.specs.Number.{halves, number_of};
 use crate::{Digits, NatureOfAddress};
 use thiserror::Error;
 
-/// What a called or a calling party number says of a subscriber (ITU-T Q.763, 3.9 and 3.10).
+/// The number of a subscriber in a called or a calling party number (ITU-T Q.763, 3.9 and 3.10).
 #[derive(Clone, Copy, Debug, PartialEq, Eq)]
 pub struct Number {
-    /// How the digits are to be understood.
+    /// The nature of address, which says how to understand the digits.
     pub nature: NatureOfAddress,
     /// The address signals, the first one first.
     pub digits: Digits,
 }
 
-/// The octets hold no number: they are fewer than 2 or more than 18, or the first one marks an odd number
-/// of digits and none has a digit.
+/// The octets hold no number. They are fewer than 2 or more than 18, or the first one marks an odd number of digits and
+/// no digits follow.
 #[derive(Clone, Copy, Debug, PartialEq, Eq, Error)]
 #[error("no number")]
 pub struct NoNumber;
@@ -26,7 +26,7 @@ pub struct NoNumber;
 /// The nature of address and the numbering plan, and two digits in each of 16 octets.
 const MOST_OCTETS: usize = 18;
 
-/// The number in the octets of either, which differ in the second octet alone.
+/// The number in a called or a calling party number; only the second octet differs between the two.
 #[tactic(auto, unfolding(crate::specs::Number::number_of))]
 pub(crate) fn read(octets: &[u8]) -> Result<Number, NoNumber>
     ensures { result_ok result ≡ number_of octets.now }

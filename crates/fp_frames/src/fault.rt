@@ -1,4 +1,4 @@
-//! Why no frame is handed out.
+//! Why there is no next frame.
 
 ghost use Rattle.std.specs.Prelude.{◌≡◌};
 ghost use Rattle.fp_frames.specs.declared.fault.FrameFault.TheVariants.{Memory};

@@ -28,7 +28,7 @@ impl Frame {
     /// The length of the longest message, in octets.
     pub const MOST: usize = 4_096;
 
-    /// The frame of this message; `None` exactly for no octets and for more than [`Frame::MOST`].
+    /// The frame of this message; `None` exactly if it has no octets or more than [`Frame::MOST`].
     pub fn new(message: Bytes) -> Option<Frame>
         ensures { SomeIff result (IsMessageLength (length message)) message }
     {
@@ -47,8 +47,8 @@ impl Frame {
         self.message.as_slice()
     }
 
-    /// A frame of the same message, which shares the octets and copies none. The error is that of the octets' own
-    /// [`Bytes::clone`]: there are as many shares as can be counted.
+    /// A frame of the same message, which shares the octets and copies none. The error is the one of [`Bytes::clone`]:
+    /// the count of shares is at its limit.
     pub fn try_clone(&self) -> Result<Frame, AllocError>
         ensures { IfOk result (λ copy. copy ≡ self.now) }
     {

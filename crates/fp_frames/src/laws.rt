@@ -1,15 +1,15 @@
-//! What holds of all frames.
+//! Laws of all frames.
 
 ghost use Rattle.fp_frames.specs.Laws.{BadIsNoFrame, BadStaysBad, FramesGoOn, IsFourOctetsLonger, StandsBehindItsHead, StreamsAreOne};
 
-/// A message follows its head, which has four octets: what comes after them is the message.
+/// A message follows its head: after the four octets of the head, the rest of the frame is the message.
 pub fn message_stands_behind_its_head()
     ensures message { StandsBehindItsHead }
     ensures length { IsFourOctetsLonger }
 {}
 
-/// A stream has at most one list of frames and one rest, so it doesn't matter in what pieces it came; where it goes on,
-/// so do its frames; and where a length stands that no frame has, it stays, and no frame is handed out.
+/// A stream has at most one list of frames and one rest, however its pieces cut it. When more octets arrive, the frames
+/// stay and more may follow. A bad length in the rest stays there, and no frame can begin with it.
 #[tactic(auto, using(crate::proofs::Streams::stream_laws))]
 pub fn streams_have_one_list_of_frames()
     ensures one { StreamsAreOne }

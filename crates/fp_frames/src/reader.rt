@@ -12,12 +12,12 @@ use std::marker::Model;
 /// The octets of a head.
 const HEAD: usize = 4;
 
-/// The frames of a stream of octets, in whatever pieces it comes. Contracts see it as the octets that were fed and not
+/// The frames of a stream of octets, however its pieces cut them. Contracts see the octets that were fed and not yet
 /// handed out.
 ///
-/// Octets are copied where they are fed, and what was begun once more if there is no room after it. A frame that is
-/// handed out shares them, and keeps the memory of its neighbours while it lives. A peer that sends a length that no
-/// frame has can't be understood any more: from there on each call of [`FrameReader::next`] answers so.
+/// [`FrameReader::feed`] copies the octets. It copies a begun frame once more if there is no room after it. A frame
+/// that was handed out shares this memory, and keeps the memory of its neighbours alive as long as it lives. After a
+/// bad length the rest of the stream can't be read: each further call of [`FrameReader::next`] reports it again.
 #[derive(Drop)]
 pub struct FrameReader {
     octets: BytesMut,
@@ -32,7 +32,7 @@ impl Model for FrameReader {
 }
 
 impl FrameReader {
-    /// A stream of which nothing came yet. Takes no memory.
+    /// A stream before its first octet. Takes no memory.
     pub fn new(alloc: Global) -> FrameReader
         ensures { result ≡ [] }
     {
@@ -41,7 +41,7 @@ impl FrameReader {
         }
     }
 
-    /// Takes the next piece of the stream, of any length. `Err`: memory ran out, and nothing was taken.
+    /// Takes the next piece of the stream, of any length. `Err`: out of memory, and nothing was taken.
     pub fn feed(&mut self, piece: &[u8]) -> Result<(), AllocError>
         ensures ok { OnOk result (self.new ≡ self.old ++ piece.now) }
         ensures err { OnErr result (self.new ≡ self.old) }
@@ -56,10 +56,11 @@ impl FrameReader {
         self.octets.is_empty()
     }
 
-    /// The next frame, or `None` where it isn't there whole yet. A length is judged when its four octets are there.
+    /// The next frame, or `None` if it isn't complete yet. A length is checked as soon as its four octets are there.
     ///
-    /// [`FrameFault::BadFrameLength`] comes where the next length is 0 or above [`Frame::MOST`], and at each call from
-    /// there on; [`FrameFault::Memory`] only where a whole frame stands first. After a fault nothing has changed.
+    /// [`FrameFault::BadFrameLength`] means that the next length is 0 or above [`Frame::MOST`]; all further calls
+    /// report it, too. [`FrameFault::Memory`] is only reported for a complete frame. After a fault the reader is
+    /// unchanged.
     pub fn next(&mut self) -> Result<Option<Frame>, FrameFault>
         ensures next { IfOk result (λ frame. HandsOut self.old self.new frame) }
         ensures fault { IfErr result (FrameFaultSays self.old) }
@@ -74,8 +75,8 @@ impl FrameReader {
     }
 }
 
-/// How long the message is whose frame stands first in these octets, or `None` where the frame isn't there whole yet.
-/// [`FrameFault::BadFrameLength`] comes where no frame has the length that stands there.
+/// The length of the message in the first frame of these octets, or `None` if the frame isn't complete yet.
+/// [`FrameFault::BadFrameLength`]: the length is 0 or above [`Frame::MOST`].
 fn first_length(octets: &[u8]) -> Result<Option<usize>, FrameFault>
     ensures length { IfOk result (FirstLengthSays octets.now) }
     ensures fault { IfErr result (λ fault. (fault ≡ BadFrameLength) × IsBad octets.now) }

@@ -6,15 +6,14 @@ ghost use Rattle.fp_ipa.specs.Connection.{action_for, next, sent};
 
 use crate::Received;
 
-/// The state of a connection to which its peer connected. Its management begins as [`State::Asked`], with the octets of
-/// [`ASKS`].
+/// The state of a connection from a peer. It starts as [`State::Asked`], with the octets of [`ASKS`] sent.
 #[derive(Clone, Copy, Debug, PartialEq, Eq)]
 pub enum State {
     /// The peer was asked for the name of a unit.
     Asked,
-    /// The peer named this unit, and its acknowledgement isn't there yet.
+    /// The peer named this unit, and hasn't acknowledged yet.
     Named(usize),
-    /// The connection carries messages of SCCP for this unit.
+    /// The connection carries SCCP messages for this unit.
     Active(usize),
     /// The connection is over.
     Closed,
@@ -27,21 +26,21 @@ pub enum Action {
     Skip,
     /// A PONG is sent.
     Pong,
-    /// A unit was named, and an ID_ACK is sent. (A node that drains closes the connection instead.)
+    /// An ID_ACK is sent, as a unit was named. (A node that drains closes the connection instead.)
     Acknowledge,
     /// The connection is active from now on.
     Activate,
-    /// The message is handed on: it is one of SCCP.
+    /// The message, one of SCCP, is handed on.
     Deliver,
     /// The connection is closed.
     Close,
 }
 
-/// The octets of an ID_GET for a unit name, which are sent as soon as a peer has connected.
+/// The octets of an ID_GET for a unit name. You must send them as soon as a peer has connected.
 pub const ASKS: [u8; 6] = [0x00, 0x03, 0xFE, 0x04, 0x01, 0x01];
 
 impl Action {
-    /// The octets that are sent: a PONG, an ID_ACK, or none.
+    /// The octets to send: a PONG, an ID_ACK, or none.
     pub fn octets(self) -> &'static [u8]
         ensures { result.now ≡ sent self }
     {

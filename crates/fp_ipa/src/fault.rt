@@ -1,4 +1,4 @@
-//! Why no message is handed out.
+//! Why there is no next message.
 
 ghost use Rattle.std.specs.Prelude.{◌≡◌};
 ghost use Rattle.fp_ipa.specs.declared.fault.IpaFault.TheVariants.{Memory};

@@ -8,7 +8,7 @@ use crate::UnitName;
 /// The tag of a unit name.
 const UNIT_NAME: u8 = 1;
 
-/// An item, and the octets that follow it.
+/// An item, and the octets after it.
 #[derive(Clone, Copy, Debug)]
 struct First<'a> {
     tag: u8,
@@ -16,7 +16,7 @@ struct First<'a> {
     after: &'a [u8],
 }
 
-/// The item with which octets begin; `None` if they begin with none that is whole.
+/// The first item in these octets; `None` if they don't begin with a whole one.
 fn first_item(octets: &[u8]) -> Option<First<'_>>
     ensures { MatchOption result
         ((item : Item) (after : List ℕ) → octets.now ≢ item_octets item ++ after)
@@ -36,7 +36,7 @@ fn first_item(octets: &[u8]) -> Option<First<'_>>
     })
 }
 
-/// The value of the first unit name; `None` if there is none after items that are whole.
+/// The value of the first unit name; `None` if no unit name follows whole items.
 fn unit_name(contents: &[u8]) -> Option<&[u8]>
     ensures found { IfSome result (λ value. SaysUnitName contents.now value.now) }
     ensures none { IfNone result ((value : List ℕ) → ¬ SaysUnitName contents.now value) }
@@ -54,7 +54,7 @@ fn unit_name(contents: &[u8]) -> Option<&[u8]>
     None
 }
 
-/// A value without the octet 00 at its end, if it ends in one.
+/// A value without the octet 00 at its end, if it has one there.
 fn without_octet_at_end(value: &[u8]) -> &[u8]
     ensures { result.now ≡ without_end value.now }
 {
@@ -64,7 +64,7 @@ fn without_octet_at_end(value: &[u8]) -> &[u8]
     }
 }
 
-/// The place of the first of the names that has these octets; `None` if none has.
+/// The position of the first name with these octets; `None` if there is none.
 fn place_of(names: &[UnitName], name: &[u8]) -> Option<usize>
     ensures { MatchOption result ((place : ℕ) → slice_get names.now place ≢ Some name.now)
         (IsFirstPlace names.now name.now) }
@@ -77,7 +77,8 @@ fn place_of(names: &[UnitName], name: &[u8]) -> Option<usize>
     None
 }
 
-/// The unit that the contents of an ID_RESP name, as its place among the names; `None` if they name none of these.
+/// The unit that an ID_RESP with these contents names, as its position among the names; `None` if it names none of
+/// them.
 pub(crate) fn named_unit(names: &[UnitName], contents: &[u8]) -> Option<usize>
     ensures { MatchOption result ((unit : ℕ) → ¬ NamesUnit names.now contents.now unit)
         (NamesUnit names.now contents.now) }

@@ -1,9 +1,9 @@
-//! What holds of all streams and connections.
+//! Laws of all streams and connections.
 
 ghost use Rattle.fp_ipa.specs.Laws.{ActiveWasNamed, BadIsNoMessage, BadStaysBad, MessagesGoOn, StreamsAreOne, UnitNamesAreOne};
 
-/// A stream has at most one list of messages and one rest, so it doesn't matter in what pieces it came; if it goes on,
-/// so do its messages; and a message that is too long stays so, and none is handed out from there on.
+/// A stream has at most one list of messages and one rest, however its reads cut it. When more octets arrive, the
+/// messages stay and more may follow. A message that is too long stays so, and no further one is handed out.
 #[tactic(auto, using(crate::proofs::Streams::stream_laws))]
 pub fn streams_have_one_list_of_messages()
     ensures one { StreamsAreOne }
@@ -12,12 +12,12 @@ pub fn streams_have_one_list_of_messages()
     ensures no_message { BadIsNoMessage }
 {}
 
-/// An ID_RESP says at most one unit name.
+/// An ID_RESP has at most one unit name.
 pub fn unit_names_are_one()
     ensures { UnitNamesAreOne }
 {}
 
-/// A connection is active only if its peer named a unit, and acknowledged after that.
+/// A connection is active only if its peer named a unit and then acknowledged.
 pub fn active_connections_were_named()
     ensures { ActiveWasNamed }
 {}

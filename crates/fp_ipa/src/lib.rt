@@ -1,15 +1,15 @@
-//! The messages of IPA, by which a transfer point hands on messages of SCCP over TCP (SCCPlite, as in Osmocom's
-//! programs), and the management of such a connection (CCM). No Recommendation has them.
+//! The messages of IPA, which transfer points use to carry SCCP over TCP (SCCPlite, as in Osmocom's programs), and the
+//! management of such a connection (CCM). No Recommendation has them.
 //!
-//! The layer is handed the octets of a connection, however they are cut into reads, and gives messages; it is handed a
-//! message and a state and gives the next state and an action. It asks the system for nothing but the memory of the
-//! octets that were fed. It knows nothing of SCCP.
+//! This layer takes messages out of the octets of a connection, however the reads cut them. It also takes a message and
+//! a state to the next state and an action. It asks the system only for the memory of the octets, and knows nothing of
+//! SCCP.
 //!
 //! * [`IpaReader`] hands out the messages of a stream, each an [`IpaMessage`]: a [`StreamIdentifier`] and octets.
 //!   [`message_head`] gives the three octets before a message.
 //! * [`received_of`] classifies a message for the management of its connection, as a [`Received`].
-//! * [`State`] is the state of a connection to which its peer connected. The peer is asked for the name of a unit as
-//!   soon as it has connected, by the octets [`ASKS`]; [`State::step`] then gives a [`Step`] for each message:
+//! * [`State`] is the state of a connection from a peer. As soon as the peer has connected, you must send it the octets
+//!   [`ASKS`], which ask for the name of a unit. [`State::step`] then gives a [`Step`] for each message:
 //!
 //! | Received | `Asked` | `Named` | `Active` | `Closed` |
 //! |---|---|---|---|---|
@@ -20,14 +20,14 @@
 //! | `UnitData`: a message of SCCP | closes | closes | delivers it | skips |
 //! | `Unknown`: any other message | skips | skips | skips | skips |
 //!
-//! A cell that names no state leaves the state as it is, and what closes goes to `Closed`.
+//! A cell without a state leaves the state as it is, and `closes` leads to `Closed`.
 //!
 //! The layer above may rely on this: a stream is its messages, one after another, and a rest that begins with no whole
-//! message (`specs/Stream.antt`); the messages that an [`IpaReader`] hands out and the octets that it keeps are the
-//! octets that it held, and [`streams_have_one_list_of_messages`] says that there is no other way to take them apart.
-//! A rest that waits for more has less than [`IpaMessage::MOST`] octets and a head. A unit name is the first one of
-//! an ID_RESP (`specs/Identity.antt`), and [`unit_names_are_one`] says that there is one at most. A connection is
-//! active only after a unit was named on it and acknowledged ([`active_connections_were_named`]).
+//! message (`specs/Stream.antt`). The messages that an [`IpaReader`] hands out, followed by the octets that it keeps,
+//! are the octets that it held. [`streams_have_one_list_of_messages`] says that there is no other way to take them
+//! apart. If the reader waits for more, the rest has less than [`IpaMessage::MOST`] octets and a head. A unit name is
+//! the first one of an ID_RESP (`specs/Identity.antt`), and [`unit_names_are_one`] says that there is at most one. A
+//! connection is active only after a unit was named on it and acknowledged ([`active_connections_were_named`]).
 #![tactic(auto)]
 
 mod connection;

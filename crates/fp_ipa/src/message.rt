@@ -7,7 +7,7 @@ ghost use Rattle.fp_ipa.specs.StreamIdentifier.{stream_code};
 use crate::StreamIdentifier;
 use bytes::Bytes;
 
-/// A message: the stream to which it belongs, and its octets, at most [`IpaMessage::MOST`].
+/// A message: its stream, and its octets, at most [`IpaMessage::MOST`].
 #[derive(Debug, Drop)]
 pub struct IpaMessage {
     /// The stream.
@@ -17,12 +17,13 @@ pub struct IpaMessage {
 }
 
 impl IpaMessage {
-    /// The most octets of a message that is taken, as many as a frame may have. A message that is read, of connection
-    /// management or a UDT, an XUDT or a UDTS of SCCP, has some hundreds at most.
+    /// The most octets of a message, the same as of a frame. Real messages are shorter: connection management, a UDT,
+    /// an XUDT and a UDTS have some hundreds of octets at most.
     pub const MOST: usize = 4_096;
 }
 
-/// The three octets before a message of this length: the length, its most significant octet first, and the stream.
+/// The three octets before a message: its length, the most significant octet first, and the stream. For example, a
+/// message of 51 octets of SCCP has the head `00 33 FD`.
 pub fn message_head(stream: StreamIdentifier, length: u16) -> [u8; 3]
     ensures { result ≡ head_of (stream_code stream) length }
 {

@@ -15,13 +15,13 @@ use std::marker::Model;
 /// The octets of a head.
 const HEAD: usize = 3;
 
-/// The messages of a stream of octets, however it is cut into reads. Contracts see it as the octets that were fed and
-/// not handed out.
+/// The messages of a stream of octets, however the reads cut it. Contracts see the octets that were fed and not yet
+/// handed out.
 ///
-/// Octets are copied when they are fed. A message that is handed out shares them, and keeps the memory of its
-/// neighbours while it lives. A peer that sends a message of more than [`IpaMessage::MOST`] octets isn't understood
-/// any more: each call of [`IpaReader::next`] returns that fault from then on. After [`IpaReader::next`] returned
-/// `None`, less than [`IpaMessage::MOST`] and three octets are held.
+/// [`IpaReader::feed`] copies the octets. A message that was handed out shares this memory, and keeps the memory of its
+/// neighbours alive as long as it lives. After a message of more than [`IpaMessage::MOST`] octets the rest of the
+/// stream can't be read: each further call of [`IpaReader::next`] reports it again. After [`IpaReader::next`] returned
+/// `None`, the reader holds less than [`IpaMessage::MOST`] and three octets.
 #[derive(Drop)]
 pub struct IpaReader {
     octets: BytesMut,
@@ -36,7 +36,7 @@ impl Model for IpaReader {
 }
 
 impl IpaReader {
-    /// A stream of which nothing came yet. Takes no memory.
+    /// A stream before its first octet. Takes no memory.
     pub fn new(alloc: Global) -> IpaReader
         ensures { result ≡ [] }
     {
@@ -45,7 +45,7 @@ impl IpaReader {
         }
     }
 
-    /// Takes the next piece of the stream, of any length. `Err`: memory ran out, and nothing was taken.
+    /// Takes the next piece of the stream, of any length. `Err`: out of memory, and nothing was taken.
     pub fn feed(&mut self, piece: &[u8]) -> Result<(), AllocError>
         ensures ok { OnOk result (self.new ≡ self.old ++ piece.now) }
         ensures err { OnErr result (self.new ≡ self.old) }
@@ -60,10 +60,11 @@ impl IpaReader {
         self.octets.is_empty()
     }
 
-    /// The next message, or `None` if it isn't there whole yet. Its length is judged when its head is there.
+    /// The next message, or `None` if it isn't complete yet. Its length is checked as soon as its head is there.
     ///
-    /// [`IpaFault::TooLong`] is returned if the next message has more than [`IpaMessage::MOST`] octets, and at each
-    /// call from then on; [`IpaFault::Memory`] only if a whole message is first. After a fault nothing has changed.
+    /// [`IpaFault::TooLong`] means that the next message has more than [`IpaMessage::MOST`] octets; all further calls
+    /// report it, too. [`IpaFault::Memory`] is only reported for a complete message. After a fault the reader is
+    /// unchanged.
     pub fn next(&mut self) -> Result<Option<IpaMessage>, IpaFault>
         ensures next { IfOk result (λ message. HandsOut self.old self.new (option_map message_value message)) }
         ensures named { IfOk result (λ message. IfSome message (λ message. IsByName message.stream)) }
@@ -82,15 +83,15 @@ impl IpaReader {
     }
 }
 
-/// The head of a message that is there whole.
+/// The head of a complete message.
 #[derive(Clone, Copy, Debug)]
 struct First {
     stream: StreamIdentifier,
     length: usize,
 }
 
-/// The head of the message that is first in these octets, or `None` if the message isn't there whole yet.
-/// [`IpaFault::TooLong`] is returned if it is too long to be taken.
+/// The head of the first message in these octets, or `None` if the message isn't complete yet. [`IpaFault::TooLong`]:
+/// it has more than [`IpaMessage::MOST`] octets.
 fn first_message(octets: &[u8]) -> Result<Option<First>, IpaFault>
     ensures first { IfOk result (λ first. MatchOption first (IsIncomplete octets.now)
         (λ first. IsFirst octets.now (stream_code first.stream) first.length)) }

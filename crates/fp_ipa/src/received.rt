@@ -1,4 +1,4 @@
-//! The kinds of messages that the management of a connection knows.
+//! The kinds of messages for the management of a connection.
 
 ghost use Rattle.fp_ipa.specs.Received.{ManagementSays, Says};
 
@@ -17,7 +17,7 @@ const IDENTITY_ACKNOWLEDGE: u8 = 0x06;
 pub enum Received {
     /// A PING.
     Ping,
-    /// An ID_RESP that names this one of the units.
+    /// An ID_RESP that names this unit.
     Named(usize),
     /// An ID_RESP that names none of the units.
     Misnamed,
@@ -25,7 +25,7 @@ pub enum Received {
     Acknowledged,
     /// A message of SCCP.
     UnitData,
-    /// A message of another stream, or another one of connection management, as a PONG or an ID_GET.
+    /// A message of another stream, or another one of connection management, for example a PONG or an ID_GET.
     Unknown,
 }
 
@@ -47,7 +47,7 @@ fn management_of(names: &[UnitName], octets: &[u8]) -> Received
     }
 }
 
-/// The kind of a message of this stream with these octets, on a connection whose peer may name one of these units.
+/// The kind of a message with this stream and these octets. The names are the units that the peer may name.
 pub fn received_of(names: &[UnitName], stream: StreamIdentifier, octets: &[u8]) -> Received
     ensures { Says names.now stream octets.now result }
 {

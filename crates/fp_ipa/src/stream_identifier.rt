@@ -3,19 +3,19 @@
 ghost use Rattle.std.specs.Prelude.{◌≡◌};
 ghost use Rattle.fp_ipa.specs.StreamIdentifier.{IsByName, stream_code, stream_of};
 
-/// The stream to which a message belongs.
+/// The stream of a message.
 #[derive(Clone, Copy, Debug, PartialEq, Eq)]
 pub enum StreamIdentifier {
     /// FE: connection management (CCM).
     ConnectionManagement,
     /// FD: SCCP.
     Sccp,
-    /// Another stream. [`StreamIdentifier::from_code`] and the reader never return this with a code that has a name.
+    /// Another stream. [`StreamIdentifier::from_code`] and the reader never return this for a code with a name.
     Other(u8),
 }
 
 impl StreamIdentifier {
-    /// The stream of this code, by its name if it has one.
+    /// The stream with this code, by its name if it has one.
     pub fn from_code(code: u8) -> StreamIdentifier
         ensures value { result ≡ stream_of code }
         ensures code { stream_code result ≡ code }

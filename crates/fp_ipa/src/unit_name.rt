@@ -6,8 +6,7 @@ ghost use Rattle.fp_ipa.specs.Identity.{IsUnitName};
 use fp_octets::Octets;
 use std::marker::Model;
 
-/// The name by which a peer says which unit it wants to reach: 1 to 64 octets. Contracts see it as the list of its
-/// octets.
+/// The name of the unit that a peer wants to reach: 1 to 64 octets. Contracts see it as the list of its octets.
 #[derive(Clone, Copy, Debug, PartialEq, Eq)]
 pub struct UnitName {
     octets: Octets<64>,
@@ -31,7 +30,7 @@ impl UnitName {
     /// The most octets of a name.
     pub const MOST: usize = 64;
 
-    /// The name of these octets; `None` exactly for no octets and for more than [`UnitName::MOST`].
+    /// The name of these octets; `None` exactly if there are none or more than [`UnitName::MOST`].
     pub fn new(octets: &[u8]) -> Option<UnitName>
         ensures { MatchOption result (¬ IsUnitName octets.now) (λ name. name ≡ octets.now) }
     {

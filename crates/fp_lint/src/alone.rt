@@ -1,5 +1,5 @@
-//! What [`Table::read`] says of a record that is alone after a good head. So each field is read by the reader of
-//! the records file itself, and no rule of the format is written a second time here.
+//! The result of [`Table::read`] for one record after a good head. So the reader of the records file itself checks each
+//! field, and no rule of the format is written a second time here.
 
 ghost use Rattle.std.specs.Prelude.{◌≡◌, ◌<◌, ◌∷◌, ◌++◌, [], IfOk, codes, is_some, length};
 ghost use Rattle.csv.specs.Records.{fields_of};
@@ -16,7 +16,7 @@ use fp_digits::{Digits, NatureOfAddress, Number};
 use fp_records::{Reason, RecordsFault, Rule, Table};
 use std::alloc::{AllocError, Global};
 
-/// What `Table::read` says of this text and one more record.
+/// The result of `Table::read` for this text and one more record.
 fn read_with(alloc: Global, before: &[u8], fields: &[&[u8]]) -> Result<Table, RecordsFault>
     ensures { Reads result (records_of (before.now ++ row_text default_writer (texts fields.now))) }
 {
@@ -41,7 +41,7 @@ fn row_text(alloc: Global, fields: &[&[u8]]) -> Result<Vec<u8>, AllocError>
     Ok(text)
 }
 
-/// The reason of a fault, `None` if there is a table.
+/// The reason of a fault, `None` for a table.
 fn reason_of(answer: Result<Table, RecordsFault>) -> Result<Option<Reason>, AllocError>
     ensures { result ≡ reason_in answer }
 {
@@ -52,7 +52,7 @@ fn reason_of(answer: Result<Table, RecordsFault>) -> Result<Option<Reason>, Allo
     }
 }
 
-/// The fault of a record that is read as a rule, `None` if it is one.
+/// The fault of a record that is read as a rule, `None` if it has none.
 pub(crate) fn rule_fault(alloc: Global, fields: &[&[u8]]) -> Result<Option<Reason>, AllocError>
     requires { 0 < length fields.now }
     ensures { IfOk result (λ fault. fault ≡ fault_in (numbered_in (texts fields.now))) }
@@ -67,7 +67,7 @@ fn three_of<'a>(first: &'a [u8], second: &'a [u8], third: &'a [u8]) -> [&'a [u8]
     [first, second, third]
 }
 
-/// The fault of a record that begins with `closed`, `None` if it is a closed day.
+/// The fault of a record that begins with `closed`, `None` if it has none.
 pub(crate) fn closed_fault(
     alloc: Global,
     number: &[u8],
@@ -93,7 +93,7 @@ pub(crate) fn is_head(
     Ok(fault.is_none())
 }
 
-/// What `Table::read` says of a record of a file, read as a rule.
+/// The result of `Table::read` for a record of a file, read as a rule.
 pub(crate) fn read_alone(alloc: Global, row: &ByteRecord) -> Result<Table, RecordsFault> {
     let mut fields = Vec::with_capacity(alloc, row.len())?;
     for field in row {

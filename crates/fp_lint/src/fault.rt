@@ -5,9 +5,9 @@ use fp_records::Reason;
 /// The part of a record that has a fault.
 #[derive(Clone, Copy, Debug, PartialEq, Eq)]
 pub enum Part {
-    /// The record: the number of its fields, or that it is missing or one too many.
+    /// The whole record: it is missing or too many, or has a wrong number of fields.
     Whole,
-    /// The field at this place, from 0.
+    /// The field with this number, from 0.
     Field(usize),
     /// The times of a rule, which are the same.
     Times,
@@ -18,8 +18,8 @@ pub enum Part {
 pub struct Fault {
     /// The number of the record, from 1. Empty lines are no records.
     pub at: usize,
-    /// The part of it.
+    /// The faulty part of the record.
     pub part: Part,
-    /// What is wrong with this part.
+    /// The fault of this part.
     pub reason: Reason,
 }

@@ -1,4 +1,4 @@
-//! The faults that the records of a file have by themselves.
+//! The faults of each record by itself.
 
 ghost use Rattle.std.specs.Prelude.{◌≡◌, ◌+◌, ◌≤◌, ◌++◌, IfOk, OnOk, map, if◌then◌else◌};
 ghost use Rattle.csv.specs.Records.{field_at, fields_of};
@@ -37,7 +37,7 @@ fn push_unless(
     Ok(())
 }
 
-/// Whether the number of a rule is good, or not there.
+/// Whether the number of a rule is good or missing.
 fn has_number(alloc: Global, row: &ByteRecord) -> Result<bool, AllocError>
     ensures { IfOk result (λ has. has ≡ has_form some_digits_of (field_at (fields_of row.now) 0)) }
 {
@@ -47,7 +47,7 @@ fn has_number(alloc: Global, row: &ByteRecord) -> Result<bool, AllocError>
     }
 }
 
-/// Whether the prefix of a rule is good, or not there.
+/// Whether the prefix of a rule is good or missing.
 fn has_prefix(alloc: Global, row: &ByteRecord) -> Result<bool, AllocError>
     ensures { IfOk result (λ has. has ≡ has_form digits_of (field_at (fields_of row.now) 1)) }
 {
@@ -57,7 +57,7 @@ fn has_prefix(alloc: Global, row: &ByteRecord) -> Result<bool, AllocError>
     }
 }
 
-/// Whether the days of a rule are good, or not there.
+/// Whether the days of a rule are good or missing.
 fn has_days(alloc: Global, row: &ByteRecord) -> Result<bool, AllocError>
     ensures { IfOk result (λ has. has ≡ has_form days_of (field_at (fields_of row.now) 2)) }
 {
@@ -67,7 +67,7 @@ fn has_days(alloc: Global, row: &ByteRecord) -> Result<bool, AllocError>
     }
 }
 
-/// Whether the first time of a rule is good, or not there.
+/// Whether the first time of a rule is good or missing.
 fn has_from(alloc: Global, row: &ByteRecord) -> Result<bool, AllocError>
     ensures { IfOk result (λ has. has ≡ has_form (time_of 1439) (field_at (fields_of row.now) 3)) }
 {
@@ -77,7 +77,7 @@ fn has_from(alloc: Global, row: &ByteRecord) -> Result<bool, AllocError>
     }
 }
 
-/// Whether the second time of a rule is good, or not there.
+/// Whether the second time of a rule is good or missing.
 fn has_to(alloc: Global, row: &ByteRecord) -> Result<bool, AllocError>
     ensures { IfOk result (λ has. has ≡ has_form (time_of 1440) (field_at (fields_of row.now) 4)) }
 {
@@ -87,7 +87,7 @@ fn has_to(alloc: Global, row: &ByteRecord) -> Result<bool, AllocError>
     }
 }
 
-/// Whether the times of a rule are not the same, or not both good times.
+/// Whether the times of a rule differ, or aren't both good.
 fn has_window(alloc: Global, row: &ByteRecord) -> Result<bool, AllocError>
     ensures { IfOk result (λ has. has ≡ times_differ (fields_of row.now)) }
 {
@@ -106,7 +106,7 @@ fn has_window(alloc: Global, row: &ByteRecord) -> Result<bool, AllocError>
     times_differ(alloc, from, to)
 }
 
-/// Whether the weight of a rule is good, or not there.
+/// Whether the weight of a rule is good or missing.
 fn has_weight(alloc: Global, row: &ByteRecord) -> Result<bool, AllocError>
     ensures { IfOk result (λ has. has ≡ has_form weight_of (field_at (fields_of row.now) 5)) }
 {
@@ -116,7 +116,7 @@ fn has_weight(alloc: Global, row: &ByteRecord) -> Result<bool, AllocError>
     }
 }
 
-/// Whether the action of a rule is good, or not there.
+/// Whether the action of a rule is good or missing.
 fn has_action(alloc: Global, row: &ByteRecord) -> Result<bool, AllocError>
     ensures { IfOk result (λ has. has ≡ has_form verb_of (field_at (fields_of row.now) 6)) }
 {
@@ -126,7 +126,8 @@ fn has_action(alloc: Global, row: &ByteRecord) -> Result<bool, AllocError>
     }
 }
 
-/// Whether a rule has as many fields as its action takes, or no good action.
+/// Whether a rule has a number of fields that its action takes. A rule with a wrong action counts
+/// as good, one without an action doesn't.
 fn has_count(alloc: Global, row: &ByteRecord) -> Result<bool, AllocError>
     ensures { IfOk result (λ has. has ≡ count_fits (fields_of row.now)) }
 {
@@ -233,7 +234,7 @@ fn item_faults(
     }
 }
 
-/// Adds the faults of the records after the head, of which the first has this number.
+/// Adds the faults of the records after the head. `first` is the number of the first of them.
 fn items_faults(
     alloc: Global,
     is_two: bool,
@@ -291,7 +292,7 @@ fn headed_faults(
     Ok(())
 }
 
-/// Adds the faults that the records of a file have by themselves.
+/// Adds the faults of each record of a file by itself.
 pub(crate) fn own_faults(
     alloc: Global,
     rows: &[Row],

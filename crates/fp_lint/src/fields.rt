@@ -1,4 +1,4 @@
-//! Whether a field has its form: it has if a record with it is read whose other fields are good.
+//! Whether a field is good: a record with this field and otherwise good fields must be read.
 
 ghost use Rattle.std.specs.Prelude.{◌≡◌, ◌+◌, ◌∷◌, [], IfOk, codes, bytes_eq, is_some, IsSome};
 ghost use Rattle.fp_records.specs.Closed.{closed_in};
@@ -69,7 +69,7 @@ pub(crate) fn is_days(alloc: Global, text: &[u8]) -> Result<bool, AllocError>
     Ok(rule_fault(alloc, rule.as_slice())?.is_none())
 }
 
-/// Whether a window can begin at a time.
+/// Whether a window can begin at this time.
 pub(crate) fn is_from(alloc: Global, text: &[u8]) -> Result<bool, AllocError>
     ensures { IfOk result (λ is. is ≡ is_some (time_of 1439 text.now)) }
 {
@@ -77,7 +77,7 @@ pub(crate) fn is_from(alloc: Global, text: &[u8]) -> Result<bool, AllocError>
     Ok(rule_fault(alloc, rule.as_slice())?.is_none())
 }
 
-/// Whether a window can end at a time: one that begins at 00:00 or at 00:01 can.
+/// Whether a window can end at this time: it can if one from 00:00 or one from 00:01 can end there.
 pub(crate) fn is_to(alloc: Global, text: &[u8]) -> Result<bool, AllocError>
     ensures { IfOk result (λ is. is ≡ is_some (time_of 1440 text.now)) }
 {
@@ -88,7 +88,7 @@ pub(crate) fn is_to(alloc: Global, text: &[u8]) -> Result<bool, AllocError>
     Ok(is_after_early | is_after_late)
 }
 
-/// Whether two times, of which each is one of a window, are not the same.
+/// Whether two good times differ. You must pass a good first and second time.
 pub(crate) fn times_differ(alloc: Global, from: &[u8], to: &[u8]) -> Result<bool, AllocError>
     requires from { IsSome (time_of 1439 from.now) }
     requires to { IsSome (time_of 1440 to.now) }
@@ -114,7 +114,7 @@ pub(crate) fn is_destination(alloc: Global, text: &[u8]) -> Result<bool, AllocEr
     Ok(rule_fault(alloc, rule.as_slice())?.is_none())
 }
 
-/// Whether a text is an action: with a destination or without one.
+/// Whether a text is an action, with a destination or without one.
 pub(crate) fn is_action(alloc: Global, text: &[u8]) -> Result<bool, AllocError>
     ensures { IfOk result (λ is. is ≡ is_some (verb_of text.now)) }
 {
@@ -135,21 +135,21 @@ pub(crate) fn takes(alloc: Global, action: &[u8], count: usize) -> Result<bool, 
     Ok(rule_fault(alloc, fields.as_slice())?.is_none())
 }
 
-/// Whether a text is the number of a closed day.
+/// Whether a text is a good number of a closed day.
 pub(crate) fn is_closed_number(alloc: Global, text: &[u8]) -> Result<bool, AllocError>
     ensures { IfOk result (λ is. is ≡ is_some (some_digits_of text.now)) }
 {
     Ok(closed_fault(alloc, text, b"2000-01-01")?.is_none())
 }
 
-/// Whether a text is the date of a closed day.
+/// Whether a text is a good date of a closed day.
 pub(crate) fn is_closed_date(alloc: Global, text: &[u8]) -> Result<bool, AllocError>
     ensures { IfOk result (λ is. is ≡ is_some (date_of text.now)) }
 {
     Ok(closed_fault(alloc, b"1", text)?.is_none())
 }
 
-/// Whether a text is the name of a head.
+/// Whether a text is the first field of a head.
 pub(crate) fn is_head_name(alloc: Global, text: &[u8]) -> Result<bool, AllocError>
     ensures { IfOk result (λ is. is ≡ bytes_eq text.now (codes "key")) }
 {

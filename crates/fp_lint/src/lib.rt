@@ -1,23 +1,28 @@
-//! What there is to say of a records file beyond its first fault: all faults that its records have by themselves, each
-//! with its line and its field; and of a file without a fault what is allowed and may be a slip.
+//! A report on a records file: all faults of its records, each with its line and its field; or, for a file without
+//! faults, contents that are allowed but may be a slip.
 //!
-//! The layer is handed the text of a file and an allocator. It never asks the system for anything.
+//! This layer takes the text of a file and an allocator. It never asks the system for anything.
 //!
-//! - [`Survey`] is the records of a file with its faults. [`Survey::read`] finds them, and [`Survey::write`] says all
-//!   there is to say as text.
+//! - [`Survey`] is the records of a file with its faults. [`Survey::read`] finds them, and [`Survey::write`] writes the
+//!   report as text.
 //! - [`Fault`] is a fault of a record, with its [`Part`] and its [`Reason`](fp_records::Reason).
 //!
-//! A file without a fault gets lines for these: minutes of the week at which a number has no rule for all callers, rules
-//! that are there twice, rules that no call from a number of 15 digits gets, since those with longer prefixes take all
-//! their callers, and closed days of numbers without rules.
+//! The report on a file without faults has lines for four kinds of slips:
 //!
-//! No rule of the format is written a second time here: whether a field is good is asked of
-//! [`Table::read`](fp_records::Table::read), by a file with that field in a record that is good otherwise (`alone`).
+//! - minutes of the week without a rule for all callers of a number;
+//! - rules that are there twice;
+//! - rules that no call from a number of 15 digits gets, since rules with longer prefixes take all its callers. For
+//!   example, a rule with the prefix 30 gets no such call if ten rules with the prefixes 300 to 309 hold at all its
+//!   hours;
+//! - closed days of numbers without rules.
 //!
-//! The layer above may rely on this: the faults are those that `specs/Faults.antt` says, by the definitions of
-//! `fp_records`; the first of them is the fault of `Table::read`, and there is none if that has a table. Of the rules of a
-//! number, gaps of a week and rules that are taken are those of `specs/Week.antt` and `specs/Reach.antt`. Which rules a
-//! number has, the lines and the text have tests.
+//! No rule of the format is written a second time here: to check a field, [`Table::read`](fp_records::Table::read) gets
+//! a file with that field in an otherwise good record (`alone`).
+//!
+//! The layer above may rely on this: the faults are the ones of `specs/Faults.antt`, by the definitions of
+//! `fp_records`. The first of them is the fault of `Table::read`, and there is none if that returns a table. Gaps of a
+//! week and rules without callers follow `specs/Week.antt` and `specs/Reach.antt`. Tests cover the rest: the grouping
+//! of the rules by number, the lines and the text.
 #![tactic(auto)]
 
 mod alone;

@@ -4,11 +4,11 @@
 #[derive(Drop)]
 pub(crate) struct Lines<'a> {
     text: &'a [u8],
-    /// The number of octets that were passed over.
+    /// The number of octets passed so far.
     place: usize,
-    /// The line that the octet after these is on, from 1.
+    /// The line of the next octet, from 1.
     line: usize,
-    /// Whether the octet before is a carriage return.
+    /// Whether the last octet was a carriage return.
     after_return: bool,
 }
 
@@ -23,8 +23,8 @@ impl<'a> Lines<'a> {
         }
     }
 
-    /// The line on which a record begins whose reading began after this many octets of the text: the empty lines
-    /// before it are passed over. A line ends with LF, CR LF or CR. Lines are asked for in their order.
+    /// The line of a record: of its first octet, after any empty lines. The reader of the records began it after this
+    /// number of octets of the text. A line ends with LF, CR LF or CR. You must ask for the records in their order.
     pub(crate) fn of_record(&mut self, octets: usize) -> usize {
         let text = self.text;
         for place in self.place..text.len() {

@@ -10,10 +10,10 @@ use crate::week::{WEEK, WeekRule};
 use fp_digits::Digits;
 use fp_records::DecimalDigits;
 
-/// The digits of a whole calling number: as many as the longest prefix.
+/// The digits of a whole calling number, as many as in the longest prefix.
 const WHOLE: usize = 15;
 
-/// Whether one of the rules with a longer prefix than this fits a call at a minute of the week.
+/// Whether some rule with a longer prefix than this fits a call at a minute of the week.
 fn takes_any(rules: &[WeekRule], longer: usize, minute: u16, calling: &Digits) -> bool
     requires { minute < 10080 }
     ensures { result ≡ takes_any (rules_of rules.now) longer minute calling.now }
@@ -34,7 +34,8 @@ fn is_taker(kept: &WeekRule, longer: usize, minute: u16, calling: &Digits) -> bo
     kept.rule().prefix.len() > longer && kept.fits(calling.as_slice(), minute)
 }
 
-/// Whether each whole number that begins with these digits is that of a caller whom such a rule takes.
+/// Whether, for each whole number that begins with these digits, some rule with a longer prefix than this fits a call
+/// at a minute of the week.
 fn takes_each(rules: &[WeekRule], longer: usize, minute: u16, calling: Digits) -> bool
     requires minute { minute < 10080 }
     requires size { length calling ≤ 15 }
@@ -58,8 +59,8 @@ fn takes_each(rules: &[WeekRule], longer: usize, minute: u16, calling: Digits) -
     true
 }
 
-/// Whether no call from a whole number gets a rule: at each minute of its days and windows a rule with a longer
-/// prefix takes each caller. A rule without a prefix gets the calls without a calling number.
+/// Whether no call from a whole number gets a rule: at each minute of its days and window, rules with longer prefixes
+/// take all callers. A rule without a prefix gets the calls without a calling number.
 pub(crate) fn is_taken(rules: &[WeekRule], kept: &WeekRule) -> bool
     ensures taken { result ≡ true → IsTaken (rules_of rules.now) (rule_of kept.now) }
     ensures got { result ≡ false → IsGot (rules_of rules.now) (rule_of kept.now) }
@@ -75,7 +76,7 @@ pub(crate) fn is_taken(rules: &[WeekRule], kept: &WeekRule) -> bool
     true
 }
 
-/// Whether a rule holds at a minute of the week, and a caller whose number begins with its prefix gets it.
+/// Whether a rule holds at a minute of the week, and some caller whose number begins with its prefix gets it.
 fn is_got_at(rules: &[WeekRule], kept: &WeekRule, minute: u16) -> bool
     requires { minute < 10080 }
     ensures got { result ≡ true → IsGotAt (rules_of rules.now) (rule_of kept.now) minute }
@@ -88,7 +89,7 @@ fn is_got_at(rules: &[WeekRule], kept: &WeekRule, minute: u16) -> bool
     !takes_each(rules, prefix.len(), minute, calling_of(prefix))
 }
 
-/// The digits of a prefix as those of a calling number.
+/// The digits of a prefix, as the beginning of a calling number.
 fn calling_of(prefix: &DecimalDigits) -> Digits
     ensures value { result ≡ prefix.now }
     ensures decimal { All (λ digit. digit < 10) result }

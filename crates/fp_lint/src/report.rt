@@ -1,4 +1,4 @@
-//! What there is to say of a records file, as text.
+//! The text of the report on a records file.
 
 use crate::fault::{Fault, Part};
 use crate::reach::is_taken;
@@ -24,8 +24,8 @@ const WEEKDAYS: [&str; 7] = [
 ];
 
 impl Survey {
-    /// Appends what there is to say, in lines: each fault; or, if there is none, the service key and how far local
-    /// time is from UTC, and then what is no fault and may be a slip.
+    /// Appends the report: one line for each fault; or, if there is none, the service key, the offset of local time
+    /// from UTC, and then contents that are allowed but may be a slip.
     pub fn write(&self, alloc: Global, out: &mut String) -> Result<(), AllocError> {
         let faults = self.faults();
         for fault in faults {
@@ -38,7 +38,7 @@ impl Survey {
     }
 }
 
-/// A fault, with its line, its field and what is in it.
+/// A fault, with its line, its field and the contents of the field.
 fn write_fault(rows: &[Row], fault: &Fault, out: &mut String) -> Result<(), AllocError> {
     let Fault { at, part, reason } = *fault;
     let Some(row) = rows.get(at.saturating_sub(1)) else {
@@ -60,7 +60,7 @@ fn write_fault(rows: &[Row], fault: &Fault, out: &mut String) -> Result<(), Allo
     out.push('\n')
 }
 
-/// What is wrong with a whole record.
+/// The description of a faulty record.
 fn write_whole(row: &Row, reason: Reason, out: &mut String) -> Result<(), AllocError> {
     match (reason, row.fields.len()) {
         (Reason::TooMany, _) => out.push_str("the first one that is too many"),
@@ -69,7 +69,7 @@ fn write_whole(row: &Row, reason: Reason, out: &mut String) -> Result<(), AllocE
     }
 }
 
-/// The name of the field at a place, which has a fault for this reason.
+/// The name of a field with a fault for this reason.
 fn name_of(reason: Reason, place: usize) -> &'static str {
     match (reason, place) {
         (Reason::BadVersion, _) => "version",
@@ -89,7 +89,7 @@ fn name_of(reason: Reason, place: usize) -> &'static str {
     }
 }
 
-/// What a file without a fault says.
+/// The report on a file without faults.
 fn write_file(alloc: Global, rows: &[Row], out: &mut String) -> Result<(), AllocError> {
     let has_closed_days = match rows.first() {
         Some(first) => begins_with(&first.fields, b"fprecords"),
@@ -119,7 +119,7 @@ fn write_file(alloc: Global, rows: &[Row], out: &mut String) -> Result<(), Alloc
     Ok(())
 }
 
-/// The service key, and how far local time is from UTC.
+/// The service key, and the offset of local time from UTC.
 fn write_head(head: &Row, out: &mut String) -> Result<(), AllocError> {
     let key = number_of(head.fields.get(1).unwrap_or(b""));
     write!(out, "service key {key}, local time ")?;

@@ -19,7 +19,7 @@ pub(crate) fn begins_with(row: &ByteRecord, word: &[u8]) -> bool
     }
 }
 
-/// The fields of a record that has two.
+/// The fields of a record with two.
 #[tactic(auto, using(fp_records::proofs::Places::field_within, fp_records::proofs::Places::two))]
 fn two_fields(row: &ByteRecord) -> Option<(&[u8], &[u8])>
     ensures { MatchOption result (length (fields_of row.now) ≢ 2) (λ fields. fields_of row.now ≡ fields.0.now ∷ fields.1.now ∷ []) }
@@ -36,7 +36,7 @@ fn two_fields(row: &ByteRecord) -> Option<(&[u8], &[u8])>
     Some((first, second))
 }
 
-/// The fields of a record that has three.
+/// The fields of a record with three.
 #[tactic(auto, using(fp_records::proofs::Places::field_within, fp_records::proofs::Places::three))]
 pub(crate) fn three_fields(row: &ByteRecord) -> Option<(&[u8], &[u8], &[u8])>
     ensures { MatchOption result (length (fields_of row.now) ≢ 3) (λ fields. fields_of row.now ≡ fields.0.now ∷ fields.1.now ∷ fields.2.now ∷ []) }
@@ -67,7 +67,7 @@ pub(crate) fn names_two(row: &ByteRecord) -> bool
     }
 }
 
-/// The part of it that is wrong if it isn't.
+/// The faulty part of a record that begins with `fprecords` and isn't the line of version 2.
 #[tactic(auto, using(crate::proofs::Parts::version_part_others))]
 pub(crate) fn version_part(row: &ByteRecord) -> Part
     ensures { result ≡ version_part (fields_of row.now) }

@@ -12,14 +12,14 @@ use std::marker::Model;
 /// A record of a text.
 #[derive(Drop)]
 pub(crate) struct Row {
-    /// The line on which it begins, from 1.
+    /// The number of its first line, from 1.
     pub(crate) line: usize,
     /// Its fields.
     pub(crate) fields: ByteRecord,
 }
 
-/// Reads the records of a text, whatever the number of their fields, and counts them. Contracts see it as the
-/// number of records that were read and the remaining ones.
+/// Reads the records of a text, with any number of fields, and counts them. Contracts see the number of records read,
+/// and the remaining records.
 #[derive(Drop)]
 struct RowReader<'a> {
     reader: Reader<&'a [u8]>,
@@ -77,7 +77,7 @@ impl<'a> RowReader<'a> {
     }
 }
 
-/// The records of a text in their order, as [`fp_records::Table::read`] has them.
+/// The records of a text in their order, as in [`fp_records::Table::read`].
 pub(crate) fn rows_of(alloc: Global, text: &[u8]) -> Result<Vec<Row>, AllocError>
     ensures { IfOk result (λ rows. map (λ row. fields_of row.fields) rows.items ≡ records_of text.now) }
 {

@@ -11,7 +11,7 @@ use std::collections::BTreeMap;
 /// The rules of one number.
 #[derive(Drop)]
 pub(crate) struct Rules<'a> {
-    /// The digits of the number, as they are written.
+    /// The digits of the number, as in the file.
     pub(crate) number: &'a [u8],
     /// The line of each rule.
     pub(crate) lines: Vec<usize>,
@@ -29,7 +29,7 @@ impl<'a> Rules<'a> {
         }
     }
 
-    /// Adds the rule that a record is.
+    /// Adds the rule in a record.
     fn add(&mut self, alloc: Global, row: &Row, days: &[u8]) -> Result<(), AllocError> {
         match read_alone(alloc, &row.fields) {
             Ok(table) => match only_rule(&table, self.number) {
@@ -41,7 +41,7 @@ impl<'a> Rules<'a> {
         }
     }
 
-    /// Adds a rule whose days were written so.
+    /// Adds a rule with these days in the file.
     fn add_rule(&mut self, line: usize, days: &[u8], rule: &Rule) -> Result<(), AllocError> {
         push_rule(&mut self.rules, days, rule)?;
         self.lines.push(line)?;
@@ -49,7 +49,7 @@ impl<'a> Rules<'a> {
     }
 }
 
-/// Appends a rule whose days were written so.
+/// Appends a rule with these days in the file.
 fn push_rule(rules: &mut Vec<WeekRule>, days: &[u8], rule: &Rule) -> Result<(), AllocError> {
     let kept = [WeekRule::new(days, *rule)];
     rules.extend_from_slice(kept.as_slice())
@@ -60,9 +60,9 @@ fn push_rule(rules: &mut Vec<WeekRule>, days: &[u8], rule: &Rule) -> Result<(), 
 pub(crate) struct Closed<'a> {
     /// Its line.
     pub(crate) line: usize,
-    /// The digits of the number, as they are written.
+    /// The digits of the number, as in the file.
     pub(crate) number: &'a [u8],
-    /// The date, as it is written.
+    /// The date, as in the file.
     pub(crate) date: &'a [u8],
 }
 
@@ -70,13 +70,13 @@ pub(crate) struct Closed<'a> {
 #[derive(Drop)]
 pub(crate) struct Numbers<'a> {
     places: BTreeMap<u64, usize>,
-    /// The numbers with their rules, in the order of the first rule of each.
+    /// The numbers with their rules, in the order of each number's first rule.
     pub(crate) numbers: Vec<Rules<'a>>,
     /// The closed days, in the order of the file.
     pub(crate) closed: Vec<Closed<'a>>,
 }
 
-/// The digits of a number, 1 to 15 of them, as a decimal number after a 1.
+/// The 1 to 15 digits of a number, as a decimal number after a 1. For example, 0800 is 10,800.
 fn key_of(number: &[u8]) -> u64 {
     let mut key: u64 = 1;
     for octet in number {
@@ -88,7 +88,7 @@ fn key_of(number: &[u8]) -> u64 {
 }
 
 impl<'a> Numbers<'a> {
-    /// The numbers of the records after the head, in a file of version 2 or 1.
+    /// The numbers in the records after the head, for a file of version 2 or 1.
     pub(crate) fn read(
         alloc: Global,
         has_closed_days: bool,
@@ -121,7 +121,7 @@ impl<'a> Numbers<'a> {
         Ok(())
     }
 
-    /// Adds a rule after those of its number.
+    /// Adds a rule after the others of its number.
     fn add_rule(&mut self, alloc: Global, row: &'a Row) -> Result<(), AllocError> {
         let (Some(number), Some(days)) = (row.fields.get(0), row.fields.get(2)) else {
             return Ok(());
@@ -133,7 +133,7 @@ impl<'a> Numbers<'a> {
         Ok(())
     }
 
-    /// The place of a number, which is there then.
+    /// The position of a number, which is added if it is new.
     fn place_of(&mut self, alloc: Global, number: &'a [u8]) -> Result<usize, AllocError> {
         let key = key_of(number);
         if let Some(place) = self.places.get(&key) {

@@ -3,10 +3,11 @@
 use std::alloc::AllocError;
 use std::fmt::Write;
 
-/// The most octets of a field that are shown.
+/// The most octets of a field in a line.
 const MOST_SHOWN: usize = 60;
 
-/// Appends a field, in quotes: its first 60 octets, those that are no printable ASCII character as `\xHH`.
+/// Appends a field, in quotes: its first 60 octets, and `..` if there are more. An octet that isn't printable ASCII
+/// becomes `\xHH`.
 pub(crate) fn write_value(field: &[u8], out: &mut String) -> Result<(), AllocError> {
     out.push('"')?;
     for octet in field.iter().take(MOST_SHOWN) {
@@ -23,7 +24,7 @@ pub(crate) fn write_value(field: &[u8], out: &mut String) -> Result<(), AllocErr
     out.push('"')
 }
 
-/// Appends a field of ASCII characters, as it is.
+/// Appends a field of ASCII characters, unchanged.
 pub(crate) fn write_text(field: &[u8], out: &mut String) -> Result<(), AllocError> {
     for octet in field {
         out.push(char::from(*octet))?;
@@ -31,7 +32,7 @@ pub(crate) fn write_text(field: &[u8], out: &mut String) -> Result<(), AllocErro
     Ok(())
 }
 
-/// Appends how far local time is from UTC, as `UTC+01:00`, by an offset of a head.
+/// Appends the offset of local time from UTC, for example `UTC+01:00`, for the offset in a head.
 pub(crate) fn write_offset(offset: &[u8], out: &mut String) -> Result<(), AllocError> {
     let (sign, digits) = match offset {
         [b'-', digits @ ..] => ('-', digits),
@@ -41,7 +42,7 @@ pub(crate) fn write_offset(offset: &[u8], out: &mut String) -> Result<(), AllocE
     write!(out, "UTC{sign}{:02}:{:02}", minutes / 60, minutes % 60)
 }
 
-/// The number that decimal digits write, below 2^32.
+/// The number with these decimal digits, below 2^32.
 pub(crate) fn number_of(digits: &[u8]) -> u32 {
     let mut number: u32 = 0;
     for digit in digits {

@@ -1,4 +1,4 @@
-//! What there is to say of a records file.
+//! The faults of a records file.
 
 ghost use Rattle.std.specs.Prelude.{◌≡◌, ◌++◌, ℕ, [], IfOk};
 ghost use Rattle.fp_records.specs.File.{File, FirstFault, IsFile, records_of};
@@ -32,12 +32,12 @@ impl Model for Survey {
 impl Survey {
     /// Reads the text of a records file.
     ///
-    /// Its faults are those that each record has by itself, in the order of the records and of their fields, whatever
-    /// the records before it are. A file whose first record begins with `fprecords` and isn't `fprecords,2` is looked
-    /// at as one of version 2. If the first fault is `TooMany` it comes first; of records that are too many only the
-    /// first one is named, and only if no record before it is faulty.
+    /// The faults are the ones of each record by itself, in the order of the records and of their fields. They don't
+    /// depend on the records before. A file whose first record begins with `fprecords` and isn't `fprecords,2` is
+    /// checked as version 2. If the first fault is `TooMany`, it is the first in the list. Only the first record that
+    /// is too many is named, and only if no record before it is faulty.
     ///
-    /// The first of them is the fault of [`Table::read`], and there is none exactly if that has a table.
+    /// The first of the faults is the fault of [`Table::read`]. There are none exactly if that returns a table.
     pub fn read(alloc: Global, text: &[u8]) -> Result<Survey, AllocError>
         ensures all { IfOk result (λ survey. AreFaults (records_of text.now) survey) }
         ensures first { (at : ℕ) (reason : Reason) → FirstFault (records_of text.now) at reason → IfOk result (λ survey. BeginWith at reason survey) }
@@ -62,7 +62,7 @@ impl Survey {
     }
 }
 
-/// The faults of the records of a text, of which `Table::read` says this.
+/// The faults in the records of a text, given the result of `Table::read` for it.
 fn faults_by(
     alloc: Global,
     answer: Result<Table, RecordsFault>,
@@ -77,7 +77,7 @@ fn faults_by(
     }
 }
 
-/// The faults of records of which the first is this one.
+/// The faults in the records of a text, if this is the first one.
 fn faults_with(
     alloc: Global,
     at: usize,
@@ -91,7 +91,7 @@ fn faults_with(
     Ok(faults)
 }
 
-/// The fault of a record that is one too many, if that is the reason.
+/// The fault of a record that is too many, if that is the reason.
 fn limit_fault(alloc: Global, at: usize, reason: Reason) -> Result<Vec<Fault>, AllocError>
     ensures { IfOk result (λ faults. faults.items ≡ limit_fault at reason) }
 {

@@ -1,4 +1,4 @@
-//! The rules of a number over a week in which it is not closed.
+//! The rules of a number over a week without closed days.
 
 ghost use Rattle.std.specs.Prelude.{◌≡◌, ◌<◌, ◌+◌, ◌/◌, ◌%◌, ℕ, MatchOption, false};
 ghost use Rattle.fp_records.specs.Choice.{fits};
@@ -20,7 +20,7 @@ pub(crate) struct WeekRule {
     rule: Rule,
 }
 
-/// The days that a text has, Monday's flag first.
+/// The days in a text as flags, Monday's first.
 fn flags_of(text: &[u8]) -> [bool; 7]
     ensures { result ≡ marked_days text.now }
 {
@@ -36,7 +36,7 @@ fn flags_of(text: &[u8]) -> [bool; 7]
 }
 
 impl WeekRule {
-    /// A rule whose days were written so.
+    /// A rule with these days in the file.
     pub(crate) fn new(days: &[u8], rule: Rule) -> WeekRule
         ensures rule { result.rule ≡ rule }
         ensures days { result.days ≡ marked_days days.now }
@@ -54,7 +54,7 @@ impl WeekRule {
         &self.rule
     }
 
-    /// Whether it holds at a minute of the week, on its days and in its window.
+    /// Whether the rule holds at a minute of the week, by its days and its window.
     pub(crate) fn holds_at(&self, minute: u16) -> bool
         requires { minute < 10080 }
         ensures { result ≡ holds_at (rule_of self.now) minute }
@@ -62,7 +62,7 @@ impl WeekRule {
         self.days[usize::from(minute / DAY)] && self.rule.window.holds(minute % DAY)
     }
 
-    /// Whether it fits a call from these digits at a minute of the week.
+    /// Whether the rule fits a call from these digits at a minute of the week.
     pub(crate) fn fits(&self, calling: &[u8], minute: u16) -> bool
         requires { minute < 10080 }
         ensures { result ≡ fits calling.now (minute / 1440 + 1) (minute % 1440) (rule_of self.now) }
@@ -71,16 +71,16 @@ impl WeekRule {
     }
 }
 
-/// The minutes of the week at which a number has no rule for all callers.
+/// The minutes of the week without a rule for all callers of a number.
 #[derive(Clone, Copy)]
 pub(crate) struct Gap {
-    /// How many there are, 1 to 10,080.
+    /// The number of these minutes, 1 to 10,080.
     pub(crate) minutes: u16,
-    /// The first of them, 0 for Monday 00:00.
+    /// The first of these minutes, 0 for Monday 00:00.
     pub(crate) first: u16,
 }
 
-/// Whether none of the rules fits a call without a calling number at a minute of the week.
+/// Whether no rule fits a call without a calling number at a minute of the week.
 fn is_bare(rules: &[WeekRule], minute: u16) -> bool
     requires { minute < 10080 }
     ensures { result ≡ is_bare (rules_of rules.now) minute }
@@ -93,7 +93,7 @@ fn is_bare(rules: &[WeekRule], minute: u16) -> bool
     true
 }
 
-/// The first minute of the week at which a call without a calling number gets no rule of a number.
+/// The first minute of the week without a rule for calls without a calling number.
 fn first_bare(rules: &[WeekRule]) -> Option<u16>
     ensures { MatchOption result ((minute : ℕ) → minute < 10080 → is_bare (rules_of rules.now) minute ≡ false) (IsFirstBare (rules_of rules.now)) }
 {
@@ -105,7 +105,7 @@ fn first_bare(rules: &[WeekRule]) -> Option<u16>
     None
 }
 
-/// How many such minutes there are.
+/// The number of such minutes in the week.
 #[tactic(auto, unfolding(crate::specs::Week::count_below))]
 fn count_bare(rules: &[WeekRule]) -> u16
     ensures { result ≡ count_below (is_bare (rules_of rules.now)) 10080 }
@@ -119,7 +119,7 @@ fn count_bare(rules: &[WeekRule]) -> u16
     count
 }
 
-/// The minutes of the week at which a call without a calling number gets no rule of a number.
+/// The minutes of the week without a rule for calls without a calling number.
 pub(crate) fn gap_in(rules: &[WeekRule]) -> Option<Gap>
     ensures { MatchOption result ((minute : ℕ) → minute < 10080 → is_bare (rules_of rules.now) minute ≡ false) (λ gap. IsGap (rules_of rules.now) gap.minutes gap.first) }
 {
@@ -132,7 +132,7 @@ pub(crate) fn gap_in(rules: &[WeekRule]) -> Option<Gap>
     }
 }
 
-/// The place of a rule that is the same as this one.
+/// The position of a rule that is the same as this one.
 pub(crate) fn place_of(rules: &[WeekRule], kept: &WeekRule) -> Option<usize>
     ensures { MatchOption result (has_same rules.now kept.now ≡ false) (IsSameAt rules.now kept.now) }
 {

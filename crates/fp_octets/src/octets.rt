@@ -1,4 +1,4 @@
-//! The list.
+//! A list of octets with fixed room.
 
 ghost use Rattle.std.specs.Prelude.{◌≡◌, ◌+◌, ◌-◌, ◌<◌, ◌≤◌, ◌↔◌, IsTrue, [], ◌∷◌, ◌++◌, MatchOption, length, take, nat_eq, refl};
 ghost use Rattle.std.specs.Cmp.{partial_equiv_from_equiv, partial_order_from_agreeing_total};
@@ -8,7 +8,7 @@ ghost use Rattle.std.specs.Ordering.{as_partial_cmp, nat_cmp};
 use std::cmp::Ordering;
 use std::marker::Model;
 
-/// At most `MOST` octets, which lie in the value itself. `MOST` is 255 or less. Contracts see them as a list.
+/// At most `MOST` octets, stored in the value itself. `MOST` must be at most 255. Contracts see the list of the octets.
 #[derive(Clone, Copy, Debug)]
 pub struct Octets<const MOST: usize> {
     places: [u8; MOST],
@@ -33,8 +33,8 @@ impl<const MOST: usize> Model for Octets<MOST> {
     } };
 }
 
-/// Whether two arrays are the same. Each octet is tested, and none ends the test: so it becomes a few comparisons of
-/// machine words.
+/// Whether two arrays are the same. The loop tests every octet and has no early exit, so it compiles to a few
+/// comparisons of machine words.
 #[inline(always)]
 fn same_places<const SIZE: usize>(a: &[u8; SIZE], b: &[u8; SIZE]) -> bool
     ensures { result ≡ pointwise nat_eq a.now b.now }
@@ -46,14 +46,14 @@ fn same_places<const SIZE: usize>(a: &[u8; SIZE], b: &[u8; SIZE]) -> bool
     same
 }
 
-/// Two are equal exactly where they hold the same octets.
+/// Two lists are equal exactly if they hold the same octets.
 impl<const MOST: usize> PartialEq for Octets<MOST> {
     ghost eq = { λ a b. pointwise nat_eq a b };
 
     ghost laws = { partial_equiv_from_equiv nat_list_eq_equiv };
 
     fn eq(&self, other: &Self) -> bool {
-        // `&` and not `&&`: a way out before the end would take the number of octets out of the same comparison.
+        // `&` and not `&&`: an early exit would take the number of octets out of the same comparison.
         same_places(&self.places, &other.places) & (self.used == other.used)
     }
 }
@@ -62,7 +62,7 @@ impl<const MOST: usize> Eq for Octets<MOST> {
     ghost laws = { nat_list_eq_equiv };
 }
 
-/// The first octets that differ decide, and else the list with fewer octets is the less.
+/// The order of two lists: the first octets that differ decide. If one list begins the other, the shorter is the less.
 impl<const MOST: usize> PartialOrd for Octets<MOST> {
     ghost partial_cmp = { as_partial_cmp (slice_cmp nat_cmp) };
 
@@ -88,7 +88,7 @@ impl<const MOST: usize> Ord for Octets<MOST> {
 }
 
 impl<const MOST: usize> Octets<MOST> {
-    /// No octet.
+    /// An empty list. `MOST` must be at most 255.
     pub fn new() -> Self
         requires { MOST ≤ 255 }
         ensures { result ≡ [] }
@@ -99,7 +99,7 @@ impl<const MOST: usize> Octets<MOST> {
         }
     }
 
-    /// These octets, `None` where there are more than `MOST`.
+    /// A list of these octets; `None` if there are more than `MOST`, which must be at most 255.
     pub fn from_slice(octets: &[u8]) -> Option<Self>
         requires { MOST ≤ 255 }
         ensures { MatchOption result (MOST < length octets.now) (λ list. list ≡ octets.now) }
@@ -115,7 +115,7 @@ impl<const MOST: usize> Octets<MOST> {
         })
     }
 
-    /// How many octets there are.
+    /// The number of octets.
     pub fn len(&self) -> usize
         ensures value { result ≡ length self.now }
         ensures most { length self.now ≤ MOST }
@@ -138,7 +138,7 @@ impl<const MOST: usize> Octets<MOST> {
         &self.places[..usize::from(self.used)]
     }
 
-    /// Puts an octet after the others. There is room for it.
+    /// Appends an octet. You must leave room for it.
     pub fn push(&mut self, octet: u8)
         requires { length self.old < MOST }
         ensures { self.new ≡ self.old ++ octet ∷ [] }
@@ -147,7 +147,7 @@ impl<const MOST: usize> Octets<MOST> {
         self.used += 1;
     }
 
-    /// Puts octets after the others. There is room for them.
+    /// Appends octets. You must leave room for them.
     pub fn extend(&mut self, octets: &[u8])
         requires most { MOST ≤ 255 }
         requires room { length self.old + length octets.now ≤ MOST }
@@ -160,7 +160,7 @@ impl<const MOST: usize> Octets<MOST> {
         }
     }
 
-    /// Takes the last octet away. There is one.
+    /// Removes the last octet. There must be one.
     pub fn drop_last(&mut self)
         requires { 0 < length self.old }
         ensures { self.new ≡ take (length self.old - 1) self.old }

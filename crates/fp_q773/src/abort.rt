@@ -1,4 +1,4 @@
-//! Abort (Q.773, 4.2.1): a dialogue is cut off, by the provider or by the user.
+//! Abort (Q.773, 4.2.1): the provider or the user cuts off a dialogue.
 
 ghost use Rattle.std.specs.Prelude.{◌≡◌, ◌<◌, ◌≤◌, ◌^◌, ◌++◌, ℕ, [], ◌∷◌, List, Option, Some, None, IfSome, IfNone, OnOk, OnErr, length, option_map};
 ghost use Rattle.fp_ber.specs.Canon.{canon, canon_of_all};
@@ -23,28 +23,28 @@ use std::alloc::AllocError;
 
 /// The number of the application tag of an Abort.
 pub const ABORT: u16 = 7;
-/// The number of the application tag of a cause of the provider.
+/// The number of the application tag of a provider's cause.
 const CAUSE: u16 = 10;
 
 /// Why a dialogue is cut off.
 #[derive(Clone, Copy, Debug)]
 pub enum AbortReason<'a> {
-    /// A cause of the provider.
+    /// The provider's cause.
     Provider(u8),
-    /// The dialogue portion of the user, an element with the tag 6B.
+    /// The user's dialogue portion, an element with the tag 6B.
     User(ElementRef<'a>),
 }
 
-/// A dialogue is cut off.
+/// An Abort: the dialogue is cut off.
 #[derive(Clone, Copy, Debug)]
 pub struct Abort<'a> {
-    /// By which its receiver knows the dialogue.
+    /// The receiver's identifier of the dialogue.
     pub destination: Tid,
-    /// Why, if that is said.
+    /// The reason, if the Abort gives one.
     pub reason: Option<AbortReason<'a>>,
 }
 
-/// The cause of the provider that an element is.
+/// Reads a provider's cause.
 fn cause_of(element: &ElementRef<'_>) -> Option<u8>
     ensures some { IfSome result (λ cause. lent_tree element.now ≡ tree.primitive classes.Application 10 (cause ∷ [])) }
     ensures none { IfNone result ((cause : ℕ) → lent_tree element.now ≡ tree.primitive classes.Application 10 (cause ∷ []) → ⊥) }
@@ -59,7 +59,7 @@ fn cause_of(element: &ElementRef<'_>) -> Option<u8>
 }
 
 impl<'a> AbortReason<'a> {
-    /// The reason that an element is.
+    /// Reads a reason: a provider's cause or a user's dialogue portion.
     fn read(element: &ElementRef<'a>) -> Option<AbortReason<'a>>
         ensures some { IfSome result (λ r. IsReason (tree.more (lent_tree element.now) tree.none) (Some (reason_of r))) }
         ensures none { IfNone result ((r : value.ReasonValue)
@@ -94,7 +94,7 @@ impl<'a> AbortReason<'a> {
 }
 
 impl<'a> Abort<'a> {
-    /// The Abort that holds these elements.
+    /// Reads an Abort from its contents.
     pub(crate) fn read(members: &Elements<'a>) -> Option<Abort<'a>>
         ensures some { IfSome result (λ a. IsAbort (lent_trees members.now) (octets_of a.destination)
             (option_map reason_of a.reason)) }
@@ -150,9 +150,8 @@ impl<'a> Abort<'a> {
     }
 }
 
-/// Writes what precedes the reason of an Abort, of the user or of the provider. The octets before the last
-/// `behind` ones are the spelling of its reason, and there are none where it has none. If memory runs out, the octets
-/// are unchanged.
+/// Completes an Abort. You must first put the spelling of its reason, if it has one; the last `behind` octets, which
+/// were there before, lie after the Abort. If memory runs out, the octets are unchanged.
 pub fn write_abort_message(
     destination: Tid,
     behind: usize,
@@ -160,14 +159,14 @@ pub fn write_abort_message(
 ) -> Result<(), AllocError>
     requires behind { behind ≤ length out.old }
 
-    // The Abort precedes the last octets.
+    // The Abort lies before the last octets.
     ensures exact { (reason : Option value.ReasonValue) (rest : List ℕ)
         → out.old ≡ canon_of_all (reason_trees reason) ++ rest → length rest ≡ behind
         → OnOk result (out.new ≡ canon (written (value.abort (octets_of destination) reason)) ++ rest) }
     ensures err { OnErr result (out.new ≡ out.old) }
     ensures stays { EndsWith out.new out.old }
 
-    // It is read as that Abort.
+    // The written octets are read as that Abort.
     ensures found { OnOk result ((reason : Option value.ReasonValue) → IsWritableReason reason
         → IsMessage (written (value.abort (octets_of destination) reason)) (value.abort (octets_of destination) reason)) }
 {

@@ -30,16 +30,16 @@ pub const BEGIN: u16 = 2;
 /// The first message of a dialogue.
 #[derive(Debug, Drop)]
 pub struct Begin<'a> {
-    /// By which its sender knows the dialogue.
+    /// The sender's identifier of the dialogue.
     pub originating: Tid,
-    /// Its dialogue portion, an element with the tag 6B.
+    /// The dialogue portion, an element with the tag 6B.
     pub dialogue: Option<ElementRef<'a>>,
-    /// Its components, in their order.
+    /// The components, in their order.
     pub components: Vec<Component<'a>>,
 }
 
 impl<'a> Begin<'a> {
-    /// The Begin that holds these elements.
+    /// Reads a Begin from its contents.
     pub(crate) fn read(alloc: Global, members: &Elements<'a>) -> Result<Begin<'a>, MessageFault>
         ensures found { IfOk result (λ b. IsBegin (lent_trees members.now) (octets_of b.originating) (tree_in b.dialogue)
             (map component_of b.components.items)) }

@@ -1,4 +1,4 @@
-//! Codes of operations and errors, with what they are handed (Q.773, 4.2.2).
+//! Codes of operations and errors, with their parameters (Q.773, 4.2.2).
 
 ghost use Rattle.std.specs.Prelude.{◌≡◌, ◌<◌, ◌^◌, ◌++◌, Option, None, Some, IfSome, IfNone, OnOk, pos, ◌+ℤ◌, ◌*ℤ◌, false};
 ghost use Rattle.fp_ber.specs.Canon.{canon, canon_of_all};
@@ -20,32 +20,32 @@ use fp_ber::universal::{INTEGER, OBJECT_IDENTIFIER};
 use fp_ber::{Class, ElementRef, Elements, Writer, integer_of, octet_of};
 use std::alloc::AllocError;
 
-/// The code of an operation or of an error.
+/// The code of an operation or an error.
 #[derive(Clone, Copy, Debug)]
 pub enum Code<'a> {
-    /// A number that the application context gives.
+    /// A number that the application context defines. For example, 0 is InitialDP.
     Local(i32),
     /// The octets of an object identifier.
     Global(&'a [u8]),
 }
 
-/// A code, and perhaps a parameter: what a ReturnResult returns.
+/// A code and its parameter, if there is one. A ReturnResult has them, too.
 #[derive(Clone, Copy, Debug)]
 pub struct Coded<'a> {
-    /// The operation or the error.
+    /// The code of the operation or the error.
     pub code: Code<'a>,
-    /// What goes with it.
+    /// The parameter.
     pub parameter: Option<ElementRef<'a>>,
 }
 
-/// A number without its last eight bits, and these.
+/// A number in two parts: the last eight bits, and the rest.
 #[derive(Clone, Copy)]
 struct Halves {
     high: i32,
     octet: u8,
 }
 
-/// Cuts the last eight bits off a number.
+/// Splits off the last eight bits of a number.
 fn halves_of(number: i32) -> Halves
     ensures value { number ≡ (pos 256 *ℤ result.high) +ℤ pos result.octet }
 {
@@ -56,7 +56,7 @@ fn halves_of(number: i32) -> Halves
     }
 }
 
-/// The octet that stands for a number in two's complement, if one does.
+/// The octet of a number in two's complement, if one octet is enough.
 fn octet_in(number: i32) -> Option<u8>
     ensures some { IfSome result (λ octet. signed octet ≡ number) }
     ensures none { IfNone result (is_within 1 number ≡ false) }
@@ -70,7 +70,8 @@ fn octet_in(number: i32) -> Option<u8>
     Some(octet_of(number as i8))
 }
 
-/// Writes an integer with the least octets that stand for it in two's complement.
+/// Writes an integer in two's complement, in as few octets as it takes. For example, 46 is `02 01
+/// 2E`.
 fn write_integer(number: i32, out: &mut Writer) -> Result<(), AllocError>
     ensures exact { OnOk result (out.new ≡ canon (code_tree (value.local number)) ++ out.old) }
     ensures stays { EndsWith out.new out.old }
@@ -95,7 +96,7 @@ fn write_integer(number: i32, out: &mut Writer) -> Result<(), AllocError>
 }
 
 impl<'a> Code<'a> {
-    /// The code that an element is: an integer of one to four octets, or an object identifier.
+    /// Reads a code: an integer of one to four octets, or an object identifier.
     pub(crate) fn read(element: &ElementRef<'a>) -> Option<Code<'a>>
         ensures some { IfSome result (λ code. IsCode (lent_tree element.now) (code_of code)) }
         ensures none { IfNone result ((code : CodeValue) → IsCode (lent_tree element.now) code → ⊥) }
@@ -128,7 +129,7 @@ impl<'a> Code<'a> {
 }
 
 impl<'a> Coded<'a> {
-    /// The code and the parameter that elements are.
+    /// Reads a code and a parameter, if there is one.
     pub(crate) fn read(members: &Elements<'a>) -> Option<Coded<'a>>
         ensures some { IfSome result (λ c. IsCoded (lent_trees members.now) (code_of c.code) (tree_in c.parameter)) }
         ensures none { IfNone result ((code : CodeValue) (parameter : Option Tree)
@@ -155,7 +156,7 @@ impl<'a> Coded<'a> {
         })
     }
 
-    /// Writes a code, and a parameter, if there is one.
+    /// Writes a code and the parameter, if there is one.
     pub(crate) fn write(&self, out: &mut Writer) -> Result<(), AllocError>
         requires tags { ResultHasTags (Some (result_of self.now)) }
         requires room { result_room (Some (result_of self.now)) < 2 ^ 32 }

@@ -1,4 +1,4 @@
-//! Components (Q.773, 4.2.2): what is asked and answered within a dialogue.
+//! Components (Q.773, 4.2.2): the questions and answers within a dialogue.
 
 ghost use Rattle.std.specs.Prelude.{◌≡◌, ◌<◌, ◌^◌, ◌++◌, ℤ, Option, Some, None, MatchOption, OnOk};
 ghost use Rattle.fp_ber.specs.Canon.{canon};
@@ -34,26 +34,26 @@ const RETURN_RESULT_NOT_LAST: u16 = 7;
 /// A component.
 #[derive(Clone, Copy, Debug)]
 pub enum Component<'a> {
-    /// An operation is asked for.
+    /// A request for an operation.
     Invoke(Invoke<'a>),
-    /// An operation returns, and has nothing more to return.
+    /// The result of an operation, or its last part.
     ReturnResultLast(ReturnResult<'a>),
-    /// An operation failed.
+    /// The failure of an operation.
     ReturnError(ReturnError<'a>),
-    /// A component can't be taken.
+    /// The refusal of a component.
     Reject(Reject),
-    /// An operation returns a part of its result.
+    /// A part of an operation's result; others follow.
     ReturnResultNotLast(ReturnResult<'a>),
-    /// What is none of these, and what a Reject of it has.
+    /// A faulty component: none of the others. It has the fields of the Reject that it gets.
     Faulty {
-        /// The invoke identifier that comes first, if one does and the tag is that of a component.
+        /// The invoke identifier, if the component has a known tag and begins with one.
         identifier: Option<i8>,
-        /// An unrecognized component, or a mistyped one.
+        /// The problem: unrecognized component, or mistyped component.
         problem: GeneralProblem,
     },
 }
 
-/// The invoke identifier that comes first, if one does.
+/// The invoke identifier, if the component begins with one.
 fn first_identifier(members: &Elements<'_>) -> Option<i8>
     ensures { BeginsWith (lent_trees members.now) result }
 {
@@ -66,7 +66,7 @@ fn first_identifier(members: &Elements<'_>) -> Option<i8>
     Some(identifier)
 }
 
-/// A component with a tag of the table and with these elements, which are not its own.
+/// The faulty component for a known tag with other contents.
 fn mistyped<'a>(members: &Elements<'a>) -> Component<'a>
     ensures found { (identifier : Option ℤ) × BeginsWith (lent_trees members.now) identifier
         × (component_of result ≡ value.faulty identifier general.MistypedComponent) }
@@ -78,7 +78,7 @@ fn mistyped<'a>(members: &Elements<'a>) -> Component<'a>
     }
 }
 
-/// The component that holds these elements under the tag of an Invoke.
+/// Reads the contents of an Invoke.
 fn invoke_in<'a>(members: &Elements<'a>) -> Component<'a>
     ensures found { IsComponent (tree.constructed classes.Context 1 (lent_trees members.now)) (component_of result) }
     ensures named { HasNamedProblem result }
@@ -89,7 +89,7 @@ fn invoke_in<'a>(members: &Elements<'a>) -> Component<'a>
     Component::Invoke(invoke)
 }
 
-/// The component that holds these elements under the tag of a ReturnResultLast.
+/// Reads the contents of a ReturnResultLast.
 fn return_result_last_in<'a>(members: &Elements<'a>) -> Component<'a>
     ensures found { IsComponent (tree.constructed classes.Context 2 (lent_trees members.now)) (component_of result) }
     ensures named { HasNamedProblem result }
@@ -100,7 +100,7 @@ fn return_result_last_in<'a>(members: &Elements<'a>) -> Component<'a>
     Component::ReturnResultLast(result)
 }
 
-/// The component that holds these elements under the tag of a ReturnError.
+/// Reads the contents of a ReturnError.
 fn return_error_in<'a>(members: &Elements<'a>) -> Component<'a>
     ensures found { IsComponent (tree.constructed classes.Context 3 (lent_trees members.now)) (component_of result) }
     ensures named { HasNamedProblem result }
@@ -111,7 +111,7 @@ fn return_error_in<'a>(members: &Elements<'a>) -> Component<'a>
     Component::ReturnError(error)
 }
 
-/// The component that holds these elements under the tag of a Reject.
+/// Reads the contents of a Reject.
 fn reject_in<'a>(members: &Elements<'a>) -> Component<'a>
     ensures found { IsComponent (tree.constructed classes.Context 4 (lent_trees members.now)) (component_of result) }
     ensures named { HasNamedProblem result }
@@ -122,7 +122,7 @@ fn reject_in<'a>(members: &Elements<'a>) -> Component<'a>
     Component::Reject(reject)
 }
 
-/// The component that holds these elements under the tag of a ReturnResultNotLast.
+/// Reads the contents of a ReturnResultNotLast.
 fn return_result_not_last_in<'a>(members: &Elements<'a>) -> Component<'a>
     ensures found { IsComponent (tree.constructed classes.Context 7 (lent_trees members.now)) (component_of result) }
     ensures named { HasNamedProblem result }
@@ -134,7 +134,7 @@ fn return_result_not_last_in<'a>(members: &Elements<'a>) -> Component<'a>
 }
 
 impl<'a> Component<'a> {
-    /// The Invoke that the component is; `None` for any other component.
+    /// The Invoke in the component; `None` for any other component.
     pub fn as_invoke(&self) -> Option<&Invoke<'a>>
         ensures { MatchOption result
             ((identifier : ℤ) (linked : Option ℤ) (code : value.CodeValue) (parameter : Option Tree)
@@ -147,7 +147,7 @@ impl<'a> Component<'a> {
         }
     }
 
-    /// Whether the component is a faulty one.
+    /// Whether the component is faulty.
     pub fn is_faulty(&self) -> bool
         ensures { result ≡ value.is_faulty (component_of self.now) }
     {
@@ -157,7 +157,7 @@ impl<'a> Component<'a> {
         }
     }
 
-    /// The component that an element is, if only a faulty one.
+    /// Reads a component. Any element gives one: if no other fits, a faulty one.
     pub(crate) fn read(element: &ElementRef<'a>) -> Component<'a>
         ensures found { IsComponent (lent_tree element.now) (component_of result) }
         ensures named { HasNamedProblem result }

@@ -30,18 +30,18 @@ pub const CONTINUE: u16 = 5;
 /// A message between the first and the last of a dialogue.
 #[derive(Debug, Drop)]
 pub struct Continue<'a> {
-    /// By which its sender knows the dialogue.
+    /// The sender's identifier of the dialogue.
     pub originating: Tid,
-    /// By which its receiver knows the dialogue.
+    /// The receiver's identifier of the dialogue.
     pub destination: Tid,
-    /// Its dialogue portion, an element with the tag 6B.
+    /// The dialogue portion, an element with the tag 6B.
     pub dialogue: Option<ElementRef<'a>>,
-    /// Its components, in their order.
+    /// The components, in their order.
     pub components: Vec<Component<'a>>,
 }
 
 impl<'a> Continue<'a> {
-    /// The Continue that holds these elements.
+    /// Reads a Continue from its contents.
     pub(crate) fn read(alloc: Global, members: &Elements<'a>) -> Result<Continue<'a>, MessageFault>
         ensures found { IfOk result (λ c. IsContinue (lent_trees members.now) (octets_of c.originating) (octets_of c.destination)
             (tree_in c.dialogue)
@@ -80,8 +80,8 @@ impl<'a> Continue<'a> {
     }
 }
 
-/// Writes what precedes the portions of a Continue. The octets before the last `behind` ones are the spelling of
-/// its portions, and there are none where it has none. If memory runs out, the octets are unchanged.
+/// Completes a Continue. You must first put the spelling of its portions, if it has any; the last `behind` octets,
+/// which were there before, lie after the Continue. If memory runs out, the octets are unchanged.
 pub fn write_continue_message(
     originating: Tid,
     destination: Tid,
@@ -90,14 +90,14 @@ pub fn write_continue_message(
 ) -> Result<(), AllocError>
     requires behind { behind ≤ length out.old }
 
-    // The Continue precedes the last octets.
+    // The Continue lies before the last octets.
     ensures exact { (dialogue : Option Tree) (components : List value.ComponentValue) (rest : List ℕ)
         → out.old ≡ canon_of_all (portions_trees dialogue components) ++ rest → length rest ≡ behind
         → OnOk result (out.new ≡ canon (written (value.continuing (octets_of originating) (octets_of destination) dialogue components)) ++ rest) }
     ensures err { OnErr result (out.new ≡ out.old) }
     ensures stays { EndsWith out.new out.old }
 
-    // It is read as that Continue.
+    // The written octets are read as that Continue.
     ensures found { OnOk result ((dialogue : Option Tree) (components : List value.ComponentValue)
         → IsWritableDialogue dialogue → All IsReadBack components
         → IsMessage (written (value.continuing (octets_of originating) (octets_of destination) dialogue components))

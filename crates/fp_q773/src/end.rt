@@ -30,16 +30,16 @@ pub const END: u16 = 4;
 /// The last message of a dialogue.
 #[derive(Debug, Drop)]
 pub struct End<'a> {
-    /// By which its receiver knows the dialogue.
+    /// The receiver's identifier of the dialogue.
     pub destination: Tid,
-    /// Its dialogue portion, an element with the tag 6B.
+    /// The dialogue portion, an element with the tag 6B.
     pub dialogue: Option<ElementRef<'a>>,
-    /// Its components, in their order.
+    /// The components, in their order.
     pub components: Vec<Component<'a>>,
 }
 
 impl<'a> End<'a> {
-    /// The End that holds these elements.
+    /// Reads an End from its contents.
     pub(crate) fn read(alloc: Global, members: &Elements<'a>) -> Result<End<'a>, MessageFault>
         ensures found { IfOk result (λ b. IsEnd (lent_trees members.now) (octets_of b.destination) (tree_in b.dialogue)
             (map component_of b.components.items)) }
@@ -73,8 +73,8 @@ impl<'a> End<'a> {
     }
 }
 
-/// Writes what precedes the portions of an End. The octets before the last `behind` ones are the spelling of
-/// its portions, and there are none where it has none. If memory runs out, the octets are unchanged.
+/// Completes an End. You must first put the spelling of its portions, if it has any; the last `behind` octets, which
+/// were there before, lie after the End. If memory runs out, the octets are unchanged.
 pub fn write_end_message(
     destination: Tid,
     behind: usize,
@@ -82,14 +82,14 @@ pub fn write_end_message(
 ) -> Result<(), AllocError>
     requires behind { behind ≤ length out.old }
 
-    // The End precedes the last octets.
+    // The End lies before the last octets.
     ensures exact { (dialogue : Option Tree) (components : List value.ComponentValue) (rest : List ℕ)
         → out.old ≡ canon_of_all (portions_trees dialogue components) ++ rest → length rest ≡ behind
         → OnOk result (out.new ≡ canon (written (value.end (octets_of destination) dialogue components)) ++ rest) }
     ensures err { OnErr result (out.new ≡ out.old) }
     ensures stays { EndsWith out.new out.old }
 
-    // It is read as that End.
+    // The written octets are read as that End.
     ensures found { OnOk result ((dialogue : Option Tree) (components : List value.ComponentValue)
         → IsWritableDialogue dialogue → All IsReadBack components
         → IsMessage (written (value.end (octets_of destination) dialogue components))

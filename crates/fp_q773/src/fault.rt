@@ -1,4 +1,4 @@
-//! Why an element is no message.
+//! Why an element isn't a message.
 
 ghost use Rattle.std.specs.Prelude.{◌≡◌};
 ghost use Rattle.fp_q773.specs.declared.fault.MessageFault.TheVariants.{Memory};
@@ -9,13 +9,13 @@ use thiserror::Error;
 /// Why an element was not read as a message.
 #[derive(Clone, Copy, Debug, PartialEq, Eq, Error)]
 pub enum MessageFault {
-    /// The tag is that of no message.
+    /// The tag isn't a message's.
     #[error("a message with an unknown tag")]
     UnknownMessage,
-    /// The tag is that of a message, and the contents are not its own.
+    /// The tag is a message's, but the contents don't fit.
     #[error("a message with other contents than its own")]
     Badly,
-    /// An allocation failed, and nothing is known of the element.
+    /// An allocation failed. The element may be right or wrong.
     #[error("out of memory")]
     Memory,
 }

@@ -14,7 +14,7 @@ use std::alloc::AllocError;
 /// The number of the context tag of a linked identifier.
 const LINKED: u16 = 0;
 
-/// The invoke identifier that an element is.
+/// Reads an invoke identifier, -128 to 127.
 pub fn identifier_of(element: &ElementRef<'_>) -> Option<i8>
     ensures { MatchOption result ((identifier : ℤ) → IsIdentifier (lent_tree element.now) identifier → ⊥)
         (IsIdentifier (lent_tree element.now)) }
@@ -38,7 +38,7 @@ pub fn write_identifier(identifier: i8, out: &mut Writer) -> Result<(), AllocErr
     out.put_primitive(Class::Universal, INTEGER, &[octet_of(identifier)])
 }
 
-/// The linked identifier that an element is.
+/// Reads a linked identifier, -128 to 127.
 pub fn linked_of(element: &ElementRef<'_>) -> Option<i8>
     ensures { MatchOption result ((identifier : ℤ) → IsLinked (lent_tree element.now) identifier → ⊥)
         (IsLinked (lent_tree element.now)) }

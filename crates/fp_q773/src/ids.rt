@@ -1,4 +1,4 @@
-//! The kind and the transaction identifiers of octets that needn't be a message.
+//! The kind and the transaction identifiers in any octets, also if they aren't a message.
 
 ghost use Rattle.std.specs.Prelude.{◌≡◌, ◌<◌, ◌%◌, ℕ, None, List, ◌∷◌, IfSome, IfNone, MatchOption, option_map};
 ghost use Rattle.fp_q773.specs.Tid.{octets_of};
@@ -14,14 +14,14 @@ const ORIGINATING: u8 = 0x48;
 /// The tag of a destination transaction identifier.
 const DESTINATION: u8 = 0x49;
 
-/// What can be known of octets that needn't be a message.
+/// The kind and the identifiers in octets that may not be a message.
 #[derive(Clone, Copy, Debug, PartialEq, Eq)]
 pub struct Ids {
     /// The kind of the message.
     pub kind: Kind,
-    /// By which its sender knows the dialogue.
+    /// The sender's identifier of the dialogue.
     pub orig: Option<Tid>,
-    /// By which its receiver knows the dialogue.
+    /// The receiver's identifier of the dialogue.
     pub dest: Option<Tid>,
 }
 
@@ -39,7 +39,7 @@ struct Standing<'a> {
     rest: &'a [u8],
 }
 
-/// What follows this tag, if it comes first.
+/// The octets after this tag, if it is the first octet.
 fn behind(octets: &[u8], tag: u8) -> Option<&[u8]>
     ensures { MatchOption result (IsMarked tag octets.now → ⊥) (λ body. octets.now ≡ tag ∷ body.now) }
 {
@@ -52,7 +52,7 @@ fn behind(octets: &[u8], tag: u8) -> Option<&[u8]>
     Some(body)
 }
 
-/// The identifier with this tag that comes first, and what follows it.
+/// The identifier at the front with this tag, and the octets after it.
 fn identifier_at(octets: &[u8], tag: u8) -> Option<Standing<'_>>
     ensures some { IfSome result (λ s. Stands tag octets.now (octets_of s.identifier) s.rest.now) }
     ensures none { IfNone result (Counts tag octets.now None) }
@@ -76,7 +76,7 @@ fn identifier_at(octets: &[u8], tag: u8) -> Option<Standing<'_>>
     Some(Standing { identifier, rest })
 }
 
-/// The identifier with this tag that comes first.
+/// The identifier at the front with this tag.
 fn counted(octets: &[u8], tag: u8) -> Option<Tid>
     ensures { Counts tag octets.now (option_map octets_of result) }
 {
@@ -86,7 +86,7 @@ fn counted(octets: &[u8], tag: u8) -> Option<Tid>
     Some(standing.identifier)
 }
 
-/// The identifiers of a Continue: a destination one counts only after an originating one.
+/// The identifiers of a Continue. The destination one counts only after an originating one.
 fn continue_ids(octets: &[u8]) -> Found
     ensures { AreIdsIn kinds.Continue octets.now (option_map octets_of result.orig) (option_map octets_of result.dest) }
 {
@@ -102,7 +102,7 @@ fn continue_ids(octets: &[u8]) -> Found
     }
 }
 
-/// The identifiers of a message of unknown kind: an originating one that isn't there is passed over.
+/// The identifiers of a message of unknown kind. The originating one may be missing.
 fn unknown_ids(octets: &[u8]) -> Found
     ensures { AreIdsIn kinds.Unknown octets.now (option_map octets_of result.orig) (option_map octets_of result.dest) }
 {
@@ -146,7 +146,7 @@ fn ids_in(kind: Kind, octets: &[u8]) -> Found
     }
 }
 
-/// What follows a tag of one octet and a length.
+/// The octets after a tag of one octet and a length.
 fn contents_of(first: u8, body: &[u8]) -> Option<&[u8]>
     ensures some { IfSome result (λ contents. (first % 32 < 31) × PassesLength body.now contents.now) }
     ensures none { IfNone result ((contents : List ℕ) → first % 32 < 31 → PassesLength body.now contents → ⊥) }
@@ -160,14 +160,14 @@ fn contents_of(first: u8, body: &[u8]) -> Option<&[u8]>
     Some(length.rest)
 }
 
-/// The kind of a message and its transaction identifiers, as far as they can be known where the octets
-/// needn't be a message (Q.773, 4.2.1).
+/// The kind of a message and its transaction identifiers, as far as the octets have them (Q.773, 4.2.1). They needn't
+/// be a whole message. Takes no memory.
 ///
-/// The kind is told by the first octet. One length of any form is passed over, whatever it says, also where
-/// it is wrong. Then an originating identifier is read, tag 48, where the kind has one, and a destination
-/// identifier, tag 49, where the kind has one. Each counts if its length is definite and one to four, and
-/// all its octets are there; the first that doesn't ends the reading. Where the kind is unknown, and its tag
-/// is one octet, both are read as far as they are there. Takes no memory.
+/// The first octet decides the kind. Then one length in any form is skipped, even a wrong one. Then follow the
+/// identifiers that the kind has: the originating one, tag 48, and the destination one, tag 49. An identifier counts if
+/// its length is definite, one to four, and all its octets are there. The first one that doesn't count ends the search.
+/// With an unknown kind and a tag of one octet, both are read if they are there. For example, `65 0C 48 04 00 00 00 07`
+/// is a Continue with the originating identifier 00 00 00 07.
 pub fn ids_of(octets: &[u8]) -> Ids
     ensures { AreIds octets.now result.kind (option_map octets_of result.orig) (option_map octets_of result.dest) }
 {

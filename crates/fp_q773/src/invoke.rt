@@ -1,4 +1,4 @@
-//! Invoke (Q.773, 4.2.2): an operation is asked for.
+//! Invoke (Q.773, 4.2.2): a request for an operation.
 
 ghost use Rattle.std.specs.Prelude.{◌≡◌, ◌<◌, ◌≤◌, ◌^◌, ◌++◌, ℕ, ℤ, List, Option, None, IfSome, IfNone, OnOk, OnErr, length};
 ghost use Rattle.fp_ber.specs.Canon.{canon, canon_of_all};
@@ -24,27 +24,27 @@ use std::alloc::AllocError;
 /// The number of the context tag of an Invoke.
 pub const INVOKE: u16 = 1;
 
-/// An Invoke: what its sender asks for.
+/// An Invoke.
 #[derive(Clone, Copy, Debug)]
 pub struct Invoke<'a> {
-    /// The invoke identifier, by which its results and errors name it.
+    /// The invoke identifier. Results and errors refer to it.
     pub identifier: i8,
-    /// The invoke identifier of the operation that it is part of.
+    /// The linked identifier: the invoke identifier of the operation that this one is part of.
     pub linked: Option<i8>,
     /// The operation.
     pub code: Code<'a>,
-    /// What is handed to the operation.
+    /// The parameter of the operation.
     pub parameter: Option<ElementRef<'a>>,
 }
 
-/// A linked identifier, if there is one, and what follows it.
+/// A linked identifier, if there is one, and the elements after it.
 #[derive(Clone, Copy)]
 struct Linked<'a> {
     identifier: Option<i8>,
     rest: Elements<'a>,
 }
 
-/// Takes off a linked identifier, if one comes first.
+/// Reads a linked identifier, if the first element is one.
 fn linked_at<'a>(members: &Elements<'a>) -> Linked<'a>
     ensures some { IfSome result.identifier (λ identifier. (first : Tree)
         × (lent_trees members.now ≡ tree.more first (lent_trees result.rest)) × IsLinked first identifier) }
@@ -71,7 +71,7 @@ fn linked_at<'a>(members: &Elements<'a>) -> Linked<'a>
 }
 
 impl<'a> Invoke<'a> {
-    /// The Invoke that holds these elements.
+    /// Reads an Invoke from its contents.
     pub(crate) fn read(members: &Elements<'a>) -> Option<Invoke<'a>>
         ensures some { IfSome result (λ i. IsInvoke (lent_trees members.now) i.identifier i.linked
             (code_of i.code) (tree_in i.parameter)) }
@@ -124,8 +124,8 @@ fn write_asked(linked: Option<i8>, code: Code<'_>, out: &mut Writer) -> Result<(
     write_linked(linked, out)
 }
 
-/// Writes what precedes the parameter of an Invoke. The octets before the last `behind` ones are the spelling of
-/// its parameter, and there are none where it has none. If memory runs out, the octets are unchanged.
+/// Completes an Invoke. You must first put the spelling of its parameter, if it has one; the last `behind` octets,
+/// which were there before, lie after the Invoke. If memory runs out, the octets are unchanged.
 pub fn write_invoke(
     identifier: i8,
     linked: Option<i8>,
@@ -135,13 +135,13 @@ pub fn write_invoke(
 ) -> Result<(), AllocError>
     requires behind { behind ≤ length out.old }
 
-    // The Invoke precedes the last octets.
+    // The Invoke lies before the last octets.
     ensures exact { (parameter : Option Tree) (rest : List ℕ) → out.old ≡ canon_of_all (only parameter) ++ rest → length rest ≡ behind
         → OnOk result (out.new ≡ canon (component_tree (value.invoke identifier linked (code_of code.entry) parameter)) ++ rest) }
     ensures err { OnErr result (out.new ≡ out.old) }
     ensures stays { EndsWith out.new out.old }
 
-    // It is read as that Invoke.
+    // The written octets are read as that Invoke.
     ensures found { OnOk result ((parameter : Option Tree) → IsReadBack (value.invoke identifier linked (code_of code.entry) parameter)) }
 {
     let start = out.len();

@@ -8,20 +8,20 @@ ghost use Rattle.fp_q773.specs.Ids.{kind_of};
 pub enum Kind {
     /// Components outside a dialogue.
     Unidirectional,
-    /// A dialogue begins.
+    /// The first message of a dialogue.
     Begin,
-    /// A dialogue ends.
+    /// The last message of a dialogue.
     End,
-    /// A dialogue goes on.
+    /// A message between the first and the last.
     Continue,
-    /// A dialogue is cut off.
+    /// A message that cuts off a dialogue.
     Abort,
-    /// None of these.
+    /// Any other first octet.
     Unknown,
 }
 
 impl Kind {
-    /// The kind of a message whose first octet is this.
+    /// The kind of a message with this first octet. For example, 62 is a Begin.
     pub(crate) fn of(first: u8) -> Kind
         ensures { result ≡ kind_of first }
     {

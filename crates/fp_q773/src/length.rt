@@ -1,18 +1,18 @@
-//! The length that follows a tag (X.690, 8.1.3), in octets that needn't be an element.
+//! The length after a tag (X.690, 8.1.3), in octets that needn't be an element.
 
 ghost use Rattle.std.specs.Prelude.{◌≡◌, ◌∷◌, MatchOption, IfSome, IfNone};
 ghost use Rattle.fp_ber.specs.Spelling.{BeginsLength};
 ghost use Rattle.fp_q773.specs.Ids.{HasNoLength};
 
-/// A length, and what follows it.
+/// A length, and the octets after it.
 #[derive(Clone, Copy)]
 pub struct Length<'a> {
-    /// The number that it says; `None` for an indefinite one.
+    /// The value; `None` for an indefinite length.
     pub value: Option<usize>,
     pub rest: &'a [u8],
 }
 
-/// The length at the front, in any form; `None` where its octets are cut, or begin with 85 to FF.
+/// The length at the front, in any form; `None` if its octets are cut, or begin with 85 to FF.
 pub fn length_at(octets: &[u8]) -> Option<Length<'_>>
     ensures some { IfSome result (λ length. MatchOption length.value
         (octets.now ≡ 0x80 ∷ length.rest.now)

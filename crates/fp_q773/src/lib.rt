@@ -1,30 +1,30 @@
 //! Messages and components of TCAP (ITU-T Q.773), over elements.
 //!
-//! The layer is handed an element and gives a [`Message`], or is handed a [`Message`] and gives octets.
-//! It never asks the system for anything but memory. It knows nothing of operations: an Invoke has a
-//! [`Code`] and perhaps a parameter, an element that the layer above reads.
+//! This layer reads a [`Message`] from an element, and writes a [`Message`] as octets. It asks the system only for
+//! memory. It knows nothing of operations: an Invoke has a [`Code`] and perhaps a parameter, an element that the layer
+//! above reads.
 //!
-//! * [`Message`] is what a message says: its transaction identifiers, each a [`Tid`], its dialogue portion,
-//!   an element that the layer above reads, and its components.
-//! * [`Component`] is an Invoke, a ReturnResult, a ReturnError or a Reject, which has a [`Problem`]. What is
-//!   none of these is a faulty component, which tells what a Reject of it has.
-//! * [`OperationClass`] is what the far end reports of an operation.
+//! * [`Message`] has transaction identifiers, each a [`Tid`], a dialogue portion, which is an element that the layer
+//!   above reads, and components.
+//! * [`Component`] is an Invoke, a ReturnResult, a ReturnError or a Reject, which has a [`Problem`]. Any other element
+//!   is a faulty component. It has the fields of the Reject that it gets.
+//! * [`OperationClass`] says whether the far end reports success, failure, both or neither.
 //! * [`message_in`] reads a message and borrows all parameters from the element; [`write_message`] puts the
 //!   octets of a message into a [`Writer`](fp_ber::Writer).
 //! * [`write_invoke`], [`write_return_error`], [`write_component_portion`], [`write_continue_message`],
-//!   [`write_end_message`] and [`write_abort_message`] put what stands before the octets of their contents, which are
-//!   there already: so a message is written from its end to its front, without an element.
-//! * [`ids_of`] tells the kind and the transaction identifiers of octets that needn't be a message, and
-//!   [`write_abort`] spells an Abort of the provider. Neither takes memory.
+//!   [`write_end_message`] and [`write_abort_message`] put a head before contents that are already written. So you
+//!   write a message from its end to its front, without an element. For example, an End: first the parameter, then
+//!   `write_invoke`, `write_component_portion` and `write_end_message`.
+//! * [`ids_of`] gives the kind and the transaction identifiers of octets that may not be a message, and [`write_abort`]
+//!   spells an Abort of the provider. Neither takes memory.
 //!
-//! The layer above may rely on this: a message is read exactly where the grammar of `specs/Grammar.antt`
-//! has the element as that message, and each fault is answered exactly where `specs/Fault.antt` has it, want
-//! of memory aside; what is written is the canonical spelling of the element that `specs/Written.antt` makes
-//! of the message, and that element is the message by the same grammar; and `ids_of` answers by
-//! `specs/Ids.antt`. An element is at most one message, and octets tell one kind and one identifier of each
-//! sort, so each answer is the only one; of octets that spell a message they are those of the message. A
-//! problem that is read goes by its name, where it has one, and each number has one identifier of four octets. If
-//! memory runs out for what is written, the octets are unchanged.
+//! The layer above may rely on this, unless memory runs out. A message is read exactly if the element is that message
+//! by the grammar of `specs/Grammar.antt`. A fault is reported exactly if `specs/Fault.antt` has it. The written octets
+//! are the canonical spelling of the element that `specs/Written.antt` makes of the message, and that element is the
+//! message by the same grammar. `ids_of` follows `specs/Ids.antt`. An element is at most one message, and octets have
+//! one kind and at most one identifier of each sort, so there is only one answer. If the octets spell a message, the
+//! kind and the identifiers are the message's. A problem that is read has its name, if there is one, and each number
+//! has one identifier of four octets. If memory runs out during a write, the octets are unchanged.
 #![tactic(auto, using(fp_ber::specs::Putting::end_of_end))]
 
 mod abort;

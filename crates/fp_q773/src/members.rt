@@ -1,4 +1,4 @@
-//! An element that may be there.
+//! An optional element.
 
 ghost use Rattle.std.specs.Prelude.{◌≡◌, ◌<◌, ◌^◌, ◌++◌, OnOk, OnErr};
 ghost use Rattle.fp_ber.specs.Canon.{canon_of_all};
@@ -11,7 +11,8 @@ ghost use Rattle.fp_q773.specs.Writable.{only};
 use fp_ber::{ElementRef, Writer};
 use std::alloc::AllocError;
 
-/// Writes an element, if it is there. If memory runs out, the octets are unchanged.
+/// Writes an element, if there is one. Its tags and its size must be in range. If memory runs out,
+/// the octets are unchanged.
 pub fn write_optional(element: Option<ElementRef<'_>>, out: &mut Writer) -> Result<(), AllocError>
     requires tags { CopyHasTags (tree_in element) }
     requires room { tree_room (tree_in element) < 2 ^ 32 }

@@ -1,4 +1,4 @@
-//! Messages (Q.773, 4.2.1): what the two ends of a dialogue send each other.
+//! Messages (Q.773, 4.2.1) between the two ends of a dialogue.
 
 ghost use Rattle.std.specs.Prelude.{◌≡◌, ◌≢◌, ◌<◌, ◌^◌, ◌++◌, IfOk, IfErr, OnOk, OnErr};
 ghost use Rattle.fp_ber.specs.declared.element.Class.TheVariants as classes;
@@ -33,19 +33,19 @@ const UNIDIRECTIONAL: u16 = 1;
 /// A message.
 #[derive(Debug, Drop)]
 pub enum Message<'a> {
-    /// Components outside a dialogue, which aren't looked at.
+    /// Components outside a dialogue. They aren't read.
     Unidirectional,
-    /// A dialogue begins.
+    /// The first message of a dialogue.
     Begin(Begin<'a>),
-    /// A dialogue ends.
+    /// The last message of a dialogue.
     End(End<'a>),
-    /// A dialogue goes on.
+    /// A message between the first and the last.
     Continue(Continue<'a>),
-    /// A dialogue is cut off.
+    /// A message that cuts off a dialogue.
     Abort(Abort<'a>),
 }
 
-/// The message that holds these elements under the tag of a Begin.
+/// Reads the contents of a Begin.
 fn begin_in<'a>(alloc: Global, members: &Elements<'a>) -> Result<Message<'a>, MessageFault>
     ensures found { IfOk result (λ message.
         IsMessage (tree.constructed classes.Application 2 (lent_trees members.now)) (message_value message)) }
@@ -57,7 +57,7 @@ fn begin_in<'a>(alloc: Global, members: &Elements<'a>) -> Result<Message<'a>, Me
     Ok(Message::Begin(begin))
 }
 
-/// The message that holds these elements under the tag of an End.
+/// Reads the contents of an End.
 fn end_in<'a>(alloc: Global, members: &Elements<'a>) -> Result<Message<'a>, MessageFault>
     ensures found { IfOk result (λ message.
         IsMessage (tree.constructed classes.Application 4 (lent_trees members.now)) (message_value message)) }
@@ -69,7 +69,7 @@ fn end_in<'a>(alloc: Global, members: &Elements<'a>) -> Result<Message<'a>, Mess
     Ok(Message::End(end))
 }
 
-/// The message that holds these elements under the tag of a Continue.
+/// Reads the contents of a Continue.
 fn continue_in<'a>(alloc: Global, members: &Elements<'a>) -> Result<Message<'a>, MessageFault>
     ensures found { IfOk result (λ message.
         IsMessage (tree.constructed classes.Application 5 (lent_trees members.now)) (message_value message)) }
@@ -81,7 +81,7 @@ fn continue_in<'a>(alloc: Global, members: &Elements<'a>) -> Result<Message<'a>,
     Ok(Message::Continue(continuing))
 }
 
-/// The message that holds these elements under the tag of an Abort.
+/// Reads the contents of an Abort.
 fn abort_in<'a>(members: &Elements<'a>) -> Result<Message<'a>, MessageFault>
     ensures found { IfOk result (λ message.
         IsMessage (tree.constructed classes.Application 7 (lent_trees members.now)) (message_value message)) }
@@ -95,7 +95,7 @@ fn abort_in<'a>(members: &Elements<'a>) -> Result<Message<'a>, MessageFault>
     Ok(Message::Abort(abort))
 }
 
-/// The message that an element is.
+/// Reads the message in an element.
 fn read_message<'a>(alloc: Global, element: &ElementRef<'a>) -> Result<Message<'a>, MessageFault>
     ensures found { IfOk result (λ message. IsMessage (lent_tree element.now) (message_value message)) }
     ensures named { IfOk result HasNamedProblems }
@@ -121,23 +121,23 @@ fn read_message<'a>(alloc: Global, element: &ElementRef<'a>) -> Result<Message<'
 
 /// Reads a message (Q.773, 4.2.1), which borrows its parameters and its dialogue portion from the element.
 ///
-/// An element whose tag is that of no message is [`MessageFault::UnknownMessage`]; one whose contents are
-/// not those of its message is [`MessageFault::Badly`]. A component with other contents than its own makes
-/// no fault: it is a faulty component. What a Unidirectional holds isn't looked at.
+/// [`MessageFault::UnknownMessage`]: the tag isn't a message's. [`MessageFault::Badly`]: the tag is a message's, but
+/// the contents don't fit. A component with wrong contents isn't a fault of the message: it is read as a faulty
+/// component. The contents of a Unidirectional aren't read.
 pub fn message_in<'a>(alloc: Global, element: &ElementRef<'a>) -> Result<Message<'a>, MessageFault>
-    // What is read is what the element says.
+    // The element is the message that is read.
     ensures found { IfOk result (λ message. IsMessage (lent_tree element.now) (message_value message)) }
 
-    // A problem that has a name goes by it.
+    // A problem with a name is read by its name.
     ensures named { IfOk result HasNamedProblems }
 
-    // What the element says is read, unless memory runs out.
+    // A message is read, unless memory runs out.
     ensures only { (value : MessageValue) → IsMessage (lent_tree element.now) value → Reads result value }
 
-    // A fault is the element's.
+    // The fault is the element's.
     ensures fault { IfErr result (λ fault. fault ≢ faults.Memory → IsFault (lent_tree element.now) fault) }
 
-    // The element's fault is answered, unless memory runs out before it.
+    // The element's fault is reported, unless memory runs out before it.
     ensures first { (fault : MessageFault) → IsFault (lent_tree element.now) fault → Refuses result fault }
 {
     read_message(alloc, element)
@@ -145,25 +145,25 @@ pub fn message_in<'a>(alloc: Global, element: &ElementRef<'a>) -> Result<Message
 
 /// Reads a message from an element in memory of its own, as [`message_in`] does.
 pub fn message_of(alloc: Global, element: &Element) -> Result<Message<'_>, MessageFault>
-    // What is read is what the element says.
+    // The element is the message that is read.
     ensures found { IfOk result (λ message. IsMessage (tree_of element.now) (message_value message)) }
 
-    // A problem that has a name goes by it.
+    // A problem with a name is read by its name.
     ensures named { IfOk result HasNamedProblems }
 
-    // What the element says is read, unless memory runs out.
+    // A message is read, unless memory runs out.
     ensures only { (value : MessageValue) → IsMessage (tree_of element.now) value → Reads result value }
 
-    // A fault is the element's.
+    // The fault is the element's.
     ensures fault { IfErr result (λ fault. fault ≢ faults.Memory → IsFault (tree_of element.now) fault) }
 
-    // The element's fault is answered, unless memory runs out before it.
+    // The element's fault is reported, unless memory runs out before it.
     ensures first { (fault : MessageFault) → IsFault (tree_of element.now) fault → Refuses result fault }
 {
     message_in(alloc, &ElementRef::Owned(element))
 }
 
-/// Writes a message as [`write_message`] does. If memory runs out, a part of it may be there.
+/// Writes a message as [`write_message`] does. If memory runs out, part of it may be written.
 fn write_parts(message: &Message<'_>, out: &mut Writer) -> Result<(), AllocError>
     requires writable { IsWritableMessage (message_value message.now) }
     requires tags { CopiesHaveTags (message_value message.now) }
@@ -184,21 +184,21 @@ fn write_parts(message: &Message<'_>, out: &mut Writer) -> Result<(), AllocError
     }
 }
 
-/// Writes a message (Q.773, 4.2.1) before the octets that are there.
+/// Writes a message (Q.773, 4.2.1) before the octets in the writer.
 ///
-/// No component is faulty, and a dialogue portion has the tag 6B. The elements that the message lends, its parameters
-/// and its dialogue portion, have tags that elements may have, and lengths that four octets can say. A Unidirectional
-/// is written without components. If memory runs out, the octets are unchanged.
+/// You must pass no faulty component, and a dialogue portion must have the tag 6B. The elements that the message
+/// borrows, its parameters and its dialogue portion, must have tags in range, and lengths that fit into four octets. A
+/// Unidirectional is written without components. If memory runs out, the octets are unchanged.
 pub fn write_message(message: &Message<'_>, out: &mut Writer) -> Result<(), AllocError>
     requires writable { IsWritableMessage (message_value message.now) }
     requires tags { CopiesHaveTags (message_value message.now) }
     requires room { message_room (message_value message.now) < 2 ^ 32 }
 
-    // The message determines the octets: what may be spelled in several ways is written in one.
+    // The message determines the octets: of several spellings always the same one is written.
     ensures exact { OnOk result (out.new ≡ canon (written (message_value message.now)) ++ out.old) }
     ensures err { OnErr result (out.new ≡ out.old) }
 
-    // What is written is read as the message.
+    // The written octets are read as the message.
     ensures found { OnOk result (IsMessage (written (message_value message.now)) (message_value message.now)) }
 {
     let start = out.len();

@@ -1,4 +1,4 @@
-//! The portions of a message (Q.773, 4.2): of the dialogue, and of components.
+//! The dialogue portion and the component portion of a message (Q.773, 4.2).
 
 ghost use Rattle.std.specs.Prelude.{◌≡◌, ◌≢◌, ◌<◌, ◌≤◌, ◌+◌, ◌^◌, ◌++◌, ℕ, All, [], Option, List, IfOk, IfErr, IfSome, IfNone, OnOk, OnErr, length, map};
 ghost use Rattle.fp_ber.specs.Canon.{canon_of_all};
@@ -34,14 +34,14 @@ pub struct Portions<'a> {
     pub components: Vec<Component<'a>>,
 }
 
-/// A dialogue portion, if there is one, and what follows it.
+/// A dialogue portion, if there is one, and the elements after it.
 #[derive(Clone, Copy)]
 pub struct Dialogue<'a> {
     pub element: Option<ElementRef<'a>>,
     pub rest: Elements<'a>,
 }
 
-/// Takes off a dialogue portion, if one comes first.
+/// Reads a dialogue portion, if the first element is one.
 pub fn dialogue_at<'a>(members: &Elements<'a>) -> Dialogue<'a>
     ensures some { IfSome result.element (λ dialogue. (lent_trees members.now ≡ tree.more (lent_tree dialogue) (lent_trees result.rest))
         × IsDialogue (lent_tree dialogue)) }
@@ -70,7 +70,7 @@ pub fn dialogue_at<'a>(members: &Elements<'a>) -> Dialogue<'a>
     }
 }
 
-/// The components that elements are, in their order.
+/// Reads components, in their order.
 fn components_in<'a>(
     alloc: Global,
     members: &Elements<'a>,
@@ -87,7 +87,7 @@ fn components_in<'a>(
     Ok(components)
 }
 
-/// The components of a component portion, if there is one.
+/// Reads a component portion, if there is one.
 fn portion_in<'a>(alloc: Global, members: &Elements<'a>) -> Result<Vec<Component<'a>>, MessageFault>
     ensures found { IfOk result (λ v. IsPortion (lent_trees members.now) (map component_of v.items)) }
     ensures named { IfOk result (λ v. All HasNamedProblem v.items) }
@@ -111,7 +111,7 @@ fn portion_in<'a>(alloc: Global, members: &Elements<'a>) -> Result<Vec<Component
 }
 
 impl<'a> Portions<'a> {
-    /// The portions that elements are.
+    /// Reads both portions.
     pub fn read(alloc: Global, members: &Elements<'a>) -> Result<Portions<'a>, MessageFault>
         ensures found { IfOk result (λ p. ArePortions (lent_trees members.now) (tree_in p.dialogue)
             (map component_of p.components.items)) }
@@ -143,8 +143,8 @@ fn write_components(components: &[Component<'_>], out: &mut Writer) -> Result<()
     Ok(())
 }
 
-/// Writes what precedes components, of which there is one at least. The octets before the last `behind` ones are
-/// their spellings. If memory runs out, the octets are unchanged.
+/// Completes a component portion. You must first put the spellings of its components, at least one; the last `behind`
+/// octets, which were there before, lie after the portion. If memory runs out, the octets are unchanged.
 pub fn write_component_portion(behind: usize, out: &mut Writer) -> Result<(), AllocError>
     requires { behind ≤ length out.old }
     ensures exact { (components : List ComponentValue) (rest : List ℕ) → components ≢ []
@@ -173,7 +173,7 @@ fn write_portion(components: &[Component<'_>], out: &mut Writer) -> Result<(), A
     write_component_portion(behind, out)
 }
 
-/// Writes the portions of a message.
+/// Writes the portions of a message. No component may be faulty, and the tags and sizes must be in range.
 pub fn write_portions(
     dialogue: Option<ElementRef<'_>>,
     components: &[Component<'_>],

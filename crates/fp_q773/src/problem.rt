@@ -1,4 +1,4 @@
-//! Problems: what a Reject says is wrong with a component (Q.773, 4.2.2).
+//! Problems (Q.773, 4.2.2): the reason why a component is rejected.
 
 ghost use Rattle.std.specs.Prelude.{◌≡◌, ◌<◌, MatchOption, IfSome};
 ghost use Rattle.fp_q773.specs.Value.{tagged, tag_of, value_of};
@@ -13,16 +13,16 @@ const RETURN_RESULT: u16 = 2;
 /// The number of the context tag of a ReturnError problem.
 const RETURN_ERROR: u16 = 3;
 
-/// A problem of a component, whatever it is.
+/// A problem of any component.
 #[derive(Clone, Copy, Debug, PartialEq, Eq)]
 pub enum GeneralProblem {
     /// The component has an unknown tag.
     UnrecognizedComponent,
-    /// The component has other contents than its own.
+    /// The contents of the component don't fit its tag.
     MistypedComponent,
-    /// The component isn't encoded as it should be.
+    /// The component is encoded wrongly.
     BadlyStructuredComponent,
-    /// A value that has no name.
+    /// A value without a name.
     Other(u8),
 }
 
@@ -33,7 +33,7 @@ pub enum InvokeProblem {
     DuplicateInvokeIdentifier,
     /// The operation is unknown.
     UnrecognizedOperation,
-    /// The parameter isn't the operation's.
+    /// The parameter isn't one of the operation.
     MistypedParameter,
     /// There is no room for the operation.
     ResourceLimitation,
@@ -41,11 +41,11 @@ pub enum InvokeProblem {
     InitiatingRelease,
     /// The linked identifier names no operation.
     UnrecognizedLinkedIdentifier,
-    /// The operation that is named takes no linked ones.
+    /// The operation with the linked identifier allows no linked operations.
     LinkedResponseUnexpected,
-    /// The operation isn't one that may be linked to it.
+    /// The operation with the linked identifier doesn't allow this one.
     UnexpectedLinkedOperation,
-    /// A value that has no name.
+    /// A value without a name.
     Other(u8),
 }
 
@@ -56,9 +56,9 @@ pub enum ReturnResultProblem {
     UnrecognizedInvokeIdentifier,
     /// The operation returns no result.
     ReturnResultUnexpected,
-    /// The parameter isn't that of the result.
+    /// The parameter isn't one of the result.
     MistypedParameter,
-    /// A value that has no name.
+    /// A value without a name.
     Other(u8),
 }
 
@@ -71,29 +71,29 @@ pub enum ReturnErrorProblem {
     ReturnErrorUnexpected,
     /// The error is unknown.
     UnrecognizedError,
-    /// The error isn't one of the operation's.
+    /// The operation doesn't report this error.
     UnexpectedError,
-    /// The parameter isn't that of the error.
+    /// The parameter isn't one of the error.
     MistypedParameter,
-    /// A value that has no name.
+    /// A value without a name.
     Other(u8),
 }
 
 /// A problem.
 #[derive(Clone, Copy, Debug, PartialEq, Eq)]
 pub enum Problem {
-    /// Of a component, whatever it is.
+    /// A problem of any component.
     General(GeneralProblem),
-    /// Of an Invoke.
+    /// A problem of an Invoke.
     Invoke(InvokeProblem),
-    /// Of a ReturnResult.
+    /// A problem of a ReturnResult.
     ReturnResult(ReturnResultProblem),
-    /// Of a ReturnError.
+    /// A problem of a ReturnError.
     ReturnError(ReturnErrorProblem),
 }
 
 impl GeneralProblem {
-    /// The problem of this value.
+    /// The problem with this value.
     pub fn from_code(code: u8) -> GeneralProblem
         ensures value { general_code result ≡ code }
         ensures named { IsNamedGeneral result }
@@ -120,7 +120,7 @@ impl GeneralProblem {
 }
 
 impl InvokeProblem {
-    /// The problem of this value.
+    /// The problem with this value.
     pub fn from_code(code: u8) -> InvokeProblem
         ensures value { invoke_code result ≡ code }
         ensures named { IsNamedInvoke result }
@@ -157,7 +157,7 @@ impl InvokeProblem {
 }
 
 impl ReturnResultProblem {
-    /// The problem of this value.
+    /// The problem with this value.
     pub fn from_code(code: u8) -> ReturnResultProblem
         ensures value { return_result_code result ≡ code }
         ensures named { IsNamedReturnResult result }
@@ -184,7 +184,7 @@ impl ReturnResultProblem {
 }
 
 impl ReturnErrorProblem {
-    /// The problem of this value.
+    /// The problem with this value.
     pub fn from_code(code: u8) -> ReturnErrorProblem
         ensures value { return_error_code result ≡ code }
         ensures named { IsNamedReturnError result }
@@ -215,7 +215,7 @@ impl ReturnErrorProblem {
 }
 
 impl Problem {
-    /// The problem of this value whose tag has this number, 0 to 3; `None` for other numbers.
+    /// The problem with this tag number, 0 to 3, and this value; `None` for other tag numbers.
     pub fn new(tag: u16, code: u8) -> Option<Problem>
         ensures value { MatchOption result (3 < tag) (λ p. problem_of p ≡ tagged tag code) }
         ensures named { IfSome result IsNamed }

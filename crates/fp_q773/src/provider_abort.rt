@@ -16,23 +16,23 @@ const DESTINATION: u8 = 0x49;
 /// The tag of a cause.
 const CAUSE: u8 = 0x4A;
 
-/// Why the provider cuts off a dialogue. Nothing here names an incorrect transaction portion, but a log may tell of it.
+/// Why the provider cuts off a dialogue. The program never sends `IncorrectTransactionPortion`, but a log may name it.
 #[derive(Clone, Copy, Debug, PartialEq, Eq)]
 pub enum AbortCause {
-    /// The tag is that of no message.
+    /// The tag isn't a message's.
     UnrecognizedMessageType,
     /// The transaction identifier names no dialogue.
     UnrecognizedTransactionIdentifier,
-    /// The transaction portion isn't encoded as it should be.
+    /// The transaction portion is encoded wrongly.
     BadlyFormattedTransactionPortion,
-    /// The transaction portion isn't the one that is due.
+    /// The transaction portion isn't the expected one.
     IncorrectTransactionPortion,
     /// There is no room for the dialogue.
     ResourceLimitation,
 }
 
 impl AbortCause {
-    /// The cause of this value; `None` for a value above 4.
+    /// The cause with this value; `None` for a value above 4.
     pub fn from_code(code: u8) -> Option<AbortCause>
         ensures value { IfSome result (λ cause. cause_code cause ≡ code) }
         ensures only { (cause : AbortCause) → cause_code cause ≡ code → result ≡ Some cause }
@@ -64,7 +64,8 @@ impl AbortCause {
 /// The octets of an Abort of the provider: eight to eleven.
 pub type AbortOctets = Octets<11>;
 
-/// The octets of an Abort of the provider (Q.773, 4.2.1), in the canonical spelling. Takes no memory.
+/// Writes an Abort of the provider (Q.773, 4.2.1), in the canonical spelling. Takes no memory. For example, `67 09 49
+/// 04 00 00 00 07 4A 01 01` aborts the peer's dialogue 00 00 00 07: unrecognized transaction identifier.
 pub fn write_abort(destination: Tid, cause: AbortCause) -> AbortOctets
     ensures { result ≡ canon (provider_abort (octets_of destination) (cause_code cause)) }
 {

@@ -1,4 +1,4 @@
-//! Reject (Q.773, 4.2.2): a component can't be taken.
+//! Reject (Q.773, 4.2.2): the refusal of a component.
 
 ghost use Rattle.std.specs.Prelude.{◌≡◌, ◌++◌, ℤ, Option, IfSome, IfNone, MatchOption, OnOk, OnErr};
 ghost use Rattle.fp_ber.specs.Canon.{canon};
@@ -19,22 +19,22 @@ use std::alloc::AllocError;
 /// The number of the context tag of a Reject.
 pub const REJECT: u16 = 4;
 
-/// A Reject: what is wrong with a component.
+/// A Reject.
 #[derive(Clone, Copy, Debug, PartialEq, Eq)]
 pub struct Reject {
-    /// The invoke identifier of the component, if it could be read.
+    /// The invoke identifier of the rejected component, if it could be read.
     pub identifier: Option<i8>,
-    /// What is wrong with it.
+    /// The problem of the component.
     pub problem: Problem,
 }
 
-/// The identifier of a rejected component, or null in its place.
+/// The identifier of a rejected component, or null instead.
 #[derive(Clone, Copy)]
 struct Rejected {
     identifier: Option<i8>,
 }
 
-/// The identifier of a rejected component that an element is, or null.
+/// Reads the identifier of a rejected component, or null.
 fn rejected_of(element: &ElementRef<'_>) -> Option<Rejected>
     ensures { MatchOption result ((identifier : Option ℤ) → IsRejected (lent_tree element.now) identifier → ⊥)
         (λ r. IsRejected (lent_tree element.now) r.identifier) }
@@ -65,7 +65,7 @@ fn write_rejected(identifier: Option<i8>, out: &mut Writer) -> Result<(), AllocE
     }
 }
 
-/// The problem that an element is.
+/// Reads a problem.
 fn problem_in(element: &ElementRef<'_>) -> Option<Problem>
     ensures value { MatchOption result ((problem : ProblemValue) → IsProblem (lent_tree element.now) problem → ⊥)
         (λ p. IsProblem (lent_tree element.now) (problem_of p)) }
@@ -90,7 +90,7 @@ fn write_problem(problem: Problem, out: &mut Writer) -> Result<(), AllocError>
 }
 
 impl Reject {
-    /// The Reject that holds these elements.
+    /// Reads a Reject from its contents.
     pub(crate) fn read(members: &Elements<'_>) -> Option<Reject>
         ensures some { IfSome result (λ r. IsReject (lent_trees members.now) r.identifier (problem_of r.problem)) }
         ensures none { IfNone result ((identifier : Option ℤ) (problem : ProblemValue)
@@ -124,7 +124,7 @@ impl Reject {
         ensures err { OnErr result (out.new ≡ out.old) }
         ensures stays { EndsWith out.new out.old }
 
-        // It is read as that Reject.
+        // The written octets are read as that Reject.
         ensures found { OnOk result (IsReadBack (reject_of self.now)) }
     {
         let behind = out.len();

@@ -1,4 +1,4 @@
-//! ReturnError (Q.773, 4.2.2): an operation failed.
+//! ReturnError (Q.773, 4.2.2): the failure of an operation.
 
 ghost use Rattle.std.specs.Prelude.{◌≡◌, ◌<◌, ◌≤◌, ◌^◌, ◌++◌, ℕ, ℤ, List, Option, IfSome, IfNone, OnOk, OnErr, length};
 ghost use Rattle.fp_ber.specs.Canon.{canon, canon_of_all};
@@ -23,19 +23,19 @@ use std::alloc::AllocError;
 /// The number of the context tag of a ReturnError.
 pub const RETURN_ERROR: u16 = 3;
 
-/// A ReturnError: why an operation failed.
+/// A ReturnError.
 #[derive(Clone, Copy, Debug)]
 pub struct ReturnError<'a> {
     /// The invoke identifier of the operation.
     pub identifier: i8,
     /// The error.
     pub code: Code<'a>,
-    /// What is said of the error.
+    /// The parameter of the error.
     pub parameter: Option<ElementRef<'a>>,
 }
 
 impl<'a> ReturnError<'a> {
-    /// The ReturnError that holds these elements.
+    /// Reads a ReturnError from its contents.
     pub(crate) fn read(members: &Elements<'a>) -> Option<ReturnError<'a>>
         ensures some { IfSome result (λ e. IsReturnError (lent_trees members.now) e.identifier
             (code_of e.code) (tree_in e.parameter)) }
@@ -72,8 +72,8 @@ impl<'a> ReturnError<'a> {
     }
 }
 
-/// Writes what precedes the parameter of a ReturnError. The octets before the last `behind` ones are the spelling
-/// of its parameter, and there are none where it has none. If memory runs out, the octets are unchanged.
+/// Completes a ReturnError. You must first put the spelling of its parameter, if it has one; the last `behind` octets,
+/// which were there before, lie after the ReturnError. If memory runs out, the octets are unchanged.
 pub fn write_return_error(
     identifier: i8,
     code: Code<'_>,
@@ -82,13 +82,13 @@ pub fn write_return_error(
 ) -> Result<(), AllocError>
     requires behind { behind ≤ length out.old }
 
-    // The ReturnError precedes the last octets.
+    // The ReturnError lies before the last octets.
     ensures exact { (parameter : Option Tree) (rest : List ℕ) → out.old ≡ canon_of_all (only parameter) ++ rest → length rest ≡ behind
         → OnOk result (out.new ≡ canon (component_tree (value.return_error identifier (code_of code.entry) parameter)) ++ rest) }
     ensures err { OnErr result (out.new ≡ out.old) }
     ensures stays { EndsWith out.new out.old }
 
-    // It is read as that ReturnError.
+    // The written octets are read as that ReturnError.
     ensures found { OnOk result ((parameter : Option Tree) → IsReadBack (value.return_error identifier (code_of code.entry) parameter)) }
 {
     let start = out.len();

@@ -1,4 +1,4 @@
-//! ReturnResultLast and ReturnResultNotLast (Q.773, 4.2.2): what an operation returns, whole or in parts.
+//! ReturnResultLast and ReturnResultNotLast (Q.773, 4.2.2): the result of an operation, or a part of it.
 
 ghost use Rattle.std.specs.Prelude.{◌≡◌, ◌<◌, ◌^◌, ◌++◌, ℤ, Option, Some, IfSome, IfNone, OnOk, option_map};
 ghost use Rattle.fp_ber.specs.Canon.{canon_of_all};
@@ -19,16 +19,16 @@ use fp_ber::universal::SEQUENCE;
 use fp_ber::{Class, ElementRef, Elements, Writer};
 use std::alloc::AllocError;
 
-/// A ReturnResult: what an operation returns.
+/// A ReturnResult.
 #[derive(Clone, Copy, Debug)]
 pub struct ReturnResult<'a> {
     /// The invoke identifier of the operation.
     pub identifier: i8,
-    /// The operation, and what it returns.
+    /// The operation and its result.
     pub result: Option<Coded<'a>>,
 }
 
-/// What a sequence of a code and perhaps a parameter returns.
+/// Reads a sequence of an operation and its result, if there is one.
 fn returned_in<'a>(sequence: &ElementRef<'a>) -> Option<Coded<'a>>
     ensures some { IfSome result (λ c. (members : tree.Trees)
         × (lent_tree sequence.now ≡ tree.constructed classes.Universal 16 members)
@@ -43,7 +43,7 @@ fn returned_in<'a>(sequence: &ElementRef<'a>) -> Option<Coded<'a>>
 }
 
 impl<'a> ReturnResult<'a> {
-    /// The ReturnResult that holds these elements.
+    /// Reads a ReturnResult from its contents.
     pub(crate) fn read(members: &Elements<'a>) -> Option<ReturnResult<'a>>
         ensures some { IfSome result (λ r. IsReturnResult (lent_trees members.now) r.identifier (option_map result_of r.result)) }
         ensures none { IfNone result ((identifier : ℤ) (value : Option ResultValue)
@@ -73,7 +73,7 @@ impl<'a> ReturnResult<'a> {
         })
     }
 
-    /// Writes what is returned, if there is something.
+    /// Writes the operation and its result, if there are any.
     fn write_returned(&self, out: &mut Writer) -> Result<(), AllocError>
         requires tags { ResultHasTags (option_map result_of self.now.result) }
         requires room { result_room (option_map result_of self.now.result) < 2 ^ 32 }
@@ -91,7 +91,7 @@ impl<'a> ReturnResult<'a> {
         out.put_constructed(Class::Universal, SEQUENCE, behind)
     }
 
-    /// Writes what a ReturnResult holds.
+    /// Writes the contents of a ReturnResult.
     pub(crate) fn write(&self, out: &mut Writer) -> Result<(), AllocError>
         requires tags { ResultHasTags (option_map result_of self.now.result) }
         requires room { result_room (option_map result_of self.now.result) < 2 ^ 32 }

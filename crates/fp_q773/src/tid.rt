@@ -6,8 +6,8 @@ ghost use Rattle.fp_q773.specs.Tid.{octets_of, octets_of_number, IsTid};
 use fp_octets::Octets;
 use std::marker::Model;
 
-/// A transaction identifier: one to four octets, kept as they came. Contracts see it as their list, and two are equal
-/// exactly where they have the same octets.
+/// A transaction identifier: one to four octets, kept as received. Contracts see it as their list, and two are equal
+/// exactly if they have the same octets. For example, 07 and 00 07 are different identifiers.
 #[derive(Clone, Copy, Debug, PartialEq, Eq)]
 pub struct Tid {
     octets: Octets<4>,
@@ -28,7 +28,7 @@ impl Model for Tid {
 }
 
 impl Tid {
-    /// The identifier of these octets; `None` for no octets and for more than four.
+    /// The identifier of these octets; `None` if there are none or more than four.
     pub fn new(octets: &[u8]) -> Option<Tid>
         ensures { MatchOption result (¬ IsTid octets.now) (λ tid. octets_of tid ≡ octets.now) }
     {
@@ -50,7 +50,7 @@ impl Tid {
         Tid { octets }
     }
 
-    /// The number whose identifier this is; `None` for fewer than four octets.
+    /// The number of this identifier; `None` for fewer than four octets.
     pub fn number(&self) -> Option<u32>
         ensures value { IfSome result (λ number. octets_of self.now ≡ octets_of_number number) }
         ensures four { IsSome result ↔ (length (octets_of self.now) ≡ 4) }

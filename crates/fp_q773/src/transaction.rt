@@ -26,7 +26,7 @@ pub struct Transaction<'a> {
     pub rest: Elements<'a>,
 }
 
-/// Takes off the transaction identifier that comes first, with the tag of this number.
+/// Reads the transaction identifier with this tag number, which must be the first element.
 pub fn transaction_at<'a>(members: &Elements<'a>, number: u16) -> Option<Transaction<'a>>
     ensures some { IfSome result (λ t. IsTransaction (lent_trees members.now) number (octets_of t.identifier) (lent_trees t.rest)) }
     ensures none { IfNone result ((octets : List ℕ) (rest : tree.Trees)
@@ -47,7 +47,8 @@ pub fn transaction_at<'a>(members: &Elements<'a>, number: u16) -> Option<Transac
     })
 }
 
-/// Writes a transaction identifier, with the tag of this number. If memory runs out, the octets are unchanged.
+/// Writes a transaction identifier with this tag number, which must be in range. If memory runs out, the octets are
+/// unchanged.
 pub fn write_transaction(identifier: Tid, number: u16, out: &mut Writer) -> Result<(), AllocError>
     requires { IsTagNumber classes.Application number }
     ensures exact { OnOk result (out.new ≡ canon (tree.primitive classes.Application number (octets_of identifier)) ++ out.old) }

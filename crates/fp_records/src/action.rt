@@ -1,35 +1,35 @@
-//! What a rule does with a call.
+//! The action of a rule for a call.
 
 ghost use Rattle.std.specs.Prelude.{◌≡◌, ℕ, ◌≤◌, ◌∷◌, List, length};
 ghost use Rattle.fp_records.specs.Action.{destinations_in, destinations_left, first_of, rest_of};
 
 use crate::destination::Destination;
 
-/// One to four destinations, in the order in which they are tried. Two are equal exactly where they are the same
+/// One to four destinations, in the order in which they are tried. Two lists are equal exactly if they have the same
 /// destinations in the same order (`exact_destinations` of `specs/Same.antt`).
 #[derive(Clone, Copy, Debug, PartialEq, Eq)]
 pub enum Destinations {
-    /// One.
+    /// One destination.
     One([Destination; 1]),
-    /// Two.
+    /// Two destinations.
     Two([Destination; 2]),
-    /// Three.
+    /// Three destinations.
     Three([Destination; 3]),
-    /// Four.
+    /// Four destinations.
     Four([Destination; 4]),
 }
 
-/// The first of some destinations, and those that are left for when it fails.
+/// The first destination, and the others to try if it fails.
 #[derive(Clone, Copy, Debug, PartialEq, Eq)]
 pub struct SplitDestinations {
-    /// The first.
+    /// The first destination.
     pub first: Destination,
-    /// The others in their order, `None` where there are none.
+    /// The others in their order; `None` if there are none.
     pub left: Option<Destinations>,
 }
 
 impl Destinations {
-    /// The destinations, the first one first, one to four of them.
+    /// The one to four destinations, in their order.
     pub fn as_slice(&self) -> &[Destination]
         ensures value { result.now ≡ destinations_in self.now }
         ensures some { 1 ≤ length result.now }
@@ -43,7 +43,7 @@ impl Destinations {
         }
     }
 
-    /// The first destination, and those that are left for when it fails.
+    /// The first destination, and the others to try if it fails.
     pub fn split_first(self) -> SplitDestinations
         ensures first { result.first ≡ first_of self }
         ensures left { result.left ≡ rest_of self }
@@ -73,13 +73,13 @@ impl Destinations {
     }
 }
 
-/// What a rule does with a call.
+/// The action of a rule for a call.
 #[derive(Clone, Copy, Debug, PartialEq, Eq)]
 pub enum Action {
-    /// The call goes to the first destination, and on to the next where that one fails.
+    /// The call goes to the first destination, and to the next one if that fails.
     Route(Destinations),
     /// The call is refused.
     Refuse,
-    /// The call goes on with the number that was called.
+    /// The call goes on with the called number.
     Pass,
 }

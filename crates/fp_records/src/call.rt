@@ -1,4 +1,4 @@
-//! Which rules fit a call.
+//! The rules that fit a call.
 
 ghost use Rattle.std.specs.Prelude.{◌≡◌, ◌+◌, length, nat_eq};
 ghost use Rattle.std.specs.Cmp.Lexicographic.{pointwise};
@@ -8,16 +8,16 @@ ghost use Rattle.fp_records.specs.Choice.{fits};
 use crate::local_time::LocalTime;
 use crate::rule::Rule;
 
-/// What of a call the rules look at: the calling digits, none where there is no calling number, and
-/// the local time.
+/// The parts of a call that rules depend on: the calling digits, none if there is no calling number, and the local
+/// time.
 #[derive(Clone, Copy)]
 pub(crate) struct Call<'a> {
     pub(crate) calling: &'a [u8],
     pub(crate) time: LocalTime,
 }
 
-/// Whether these octets are those, as many of them. They are compared one by one, since most prefixes of a number with
-/// many rules differ from what is called in one of their first digits.
+/// Whether two lists of the same length have the same octets. They are compared one by one: if a number has many rules,
+/// most prefixes differ from the calling number in one of the first digits.
 fn all_same(one: &[u8], other: &[u8]) -> bool
     requires { length one.now ≡ length other.now }
     ensures { result ≡ pointwise nat_eq one.now other.now }
@@ -31,8 +31,8 @@ fn all_same(one: &[u8], other: &[u8]) -> bool
 }
 
 impl Call<'_> {
-    /// Whether a rule fits: its prefix begins the calling digits, its days have the weekday and its
-    /// window holds the minute.
+    /// Whether a rule fits: its prefix begins the calling digits, its days contain the weekday, and its window contains
+    /// the minute.
     pub(crate) fn fits(&self, rule: &Rule) -> bool
         ensures { result ≡ fits self.now.calling.now (monday_zero self.now.time.weekday + 1) self.now.time.minute rule.now }
     {

@@ -11,7 +11,7 @@ use crate::number_key::NumberKey;
 use crate::row::three_fields;
 use csv::ByteRecord;
 
-/// A day on which no rule of a number fits.
+/// A closed day of a number: none of its rules fits then.
 #[derive(Clone, Copy)]
 pub struct ClosedDay {
     /// The digits of the number.
@@ -20,7 +20,7 @@ pub struct ClosedDay {
     pub(crate) day: i32,
 }
 
-/// The closed day that a record says, one that begins with `closed`.
+/// The closed day in a record that begins with `closed`.
 #[tactic(auto, using(crate::proofs::Places::closed_in_others))]
 pub(crate) fn closed_in(row: &ByteRecord) -> Result<ClosedDay, Reason>
     ensures { result ≡ closed_in (fields_of row.now) }

@@ -1,4 +1,4 @@
-//! The closed days of a file by their numbers, while it is read.
+//! The closed days of a file by their numbers, during its reading.
 
 ghost use Rattle.std.specs.Prelude.{◌≡◌, ◌≤◌, IsTrue, [], IfErr, IfOk, OnErr, OnOk, length, map};
 ghost use Rattle.fp_records.specs.Closings.{listed_days, with_day};
@@ -15,7 +15,7 @@ use std::marker::Model;
 /// The most closed days of a file.
 const MOST_CLOSED: usize = 10_000;
 
-/// The closed days that were read so far, by the digits of their numbers.
+/// The closed days read so far, by the digits of their numbers.
 #[derive(Drop)]
 pub(crate) struct ClosedDays {
     count: usize,
@@ -46,7 +46,7 @@ impl ClosedDays {
         }
     }
 
-    /// How many records of closed days there were.
+    /// The number of records with closed days.
     pub(crate) fn count(&self) -> usize
         ensures value { result ≡ self.now.count }
         ensures most { result ≤ 10000 }
@@ -54,14 +54,14 @@ impl ClosedDays {
         self.count
     }
 
-    /// Whether one more is within the limit.
+    /// Whether one more closed day is within the limit.
     pub(crate) fn has_place(&self) -> bool
         ensures { result ≡ has_place self.now }
     {
         self.count < MOST_CLOSED
     }
 
-    /// Adds a closed day, for which there is a place. A day that a number already has is counted again.
+    /// Adds a closed day, which must be within the limit. A day that a number already has is counted again.
     pub(crate) fn add(&mut self, alloc: Global, closed: ClosedDay) -> Result<(), RecordsFault>
         requires place { IsTrue (has_place self.old) }
         ensures added { OnOk result (ClosesMore self.old closed self.new) }
@@ -72,7 +72,7 @@ impl ClosedDays {
         Ok(())
     }
 
-    /// The days of a number, in a set of their own.
+    /// The closed days of a number, as a set of their own.
     pub(crate) fn of(&self, alloc: Global, number: &NumberKey) -> Result<DaySet, RecordsFault>
         ensures days { IfOk result (λ days. days ≡ at_number number.now self.now.days) }
         ensures fault { IfErr result (λ fault. fault ≡ Memory) }
@@ -84,7 +84,7 @@ impl ClosedDays {
     }
 }
 
-/// Puts a day into the set of a number.
+/// Adds a day to the set of a number.
 fn insert_at(
     sets: &mut BTreeMap<NumberKey, BTreeSet<i32>>,
     alloc: Global,

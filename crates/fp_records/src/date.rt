@@ -6,14 +6,14 @@ ghost use Rattle.fp_records.specs.Date.{date_of, day_at, number_of_date};
 use crate::window::two_digits;
 use jiff::civil::Date;
 
-/// The first day that a moment can fall on in local time, 1969-12-31.
+/// The first possible day of a moment in local time, 1969-12-31.
 const FIRST_DAY: i32 = -1;
 
-/// The last one, 2100-01-01.
+/// The last possible day of a moment in local time, 2100-01-01.
 const LAST_DAY: i32 = 47482;
 
-/// The number of the day, 0 for 1970-01-01, that a text `YYYY-MM-DD` writes, if the calendar has that date
-/// and it is one from 1969-12-31 to 2100-01-01.
+/// The number of the day that a text `YYYY-MM-DD` names, 0 for 1970-01-01. `None` if the calendar doesn't have this
+/// date, or if it is before 1969-12-31 or after 2100-01-01. For example, `1970-02-01` is day 31.
 pub(crate) fn date_of(text: &[u8]) -> Option<i32>
     ensures { result ≡ date_of text.now }
 {
@@ -27,7 +27,7 @@ pub(crate) fn date_of(text: &[u8]) -> Option<i32>
     day_at(100 * hundreds + years, month, day)
 }
 
-/// The number of the day of a date from 1969-12-31 to 2100-01-01, if the calendar has it.
+/// The number of a day from 1969-12-31 to 2100-01-01, if the calendar has it.
 fn day_at(year: u16, month: u16, day: u16) -> Option<i32>
     requires month { month < 100 }
     requires day { day < 100 }
@@ -41,7 +41,7 @@ fn day_at(year: u16, month: u16, day: u16) -> Option<i32>
     }
 }
 
-/// The number of the day of a date from 1969 to 2100, if the calendar has it.
+/// The number of a day from 1969 to 2100, if the calendar has it.
 fn number_of_date(year: u16, month: u16, day: u16) -> Option<i32>
     requires month { month < 100 }
     requires day { day < 100 }

@@ -1,4 +1,4 @@
-//! The days on which a number is closed.
+//! The closed days of a number.
 
 ghost use Rattle.std.specs.Prelude.{◌≡◌, [], IfErr, IfOk};
 ghost use Rattle.std.specs.Cmp.Lexicographic.{pointwise};
@@ -11,8 +11,8 @@ use std::alloc::Global;
 use std::collections::BTreeSet;
 use std::marker::Model;
 
-/// The days on which a number is closed. Few numbers have any, so they are in a place of their own. Contracts see them as
-/// the numbers of the days, in rising order.
+/// The closed days of a number. Few numbers have any, so they are in an allocation of their own. Contracts see the
+/// numbers of the days, in rising order.
 #[derive(Debug, Drop)]
 pub(crate) struct DaySet {
     days: Option<Box<BTreeSet<i32>>>,
@@ -28,14 +28,14 @@ impl Model for DaySet {
 }
 
 impl DaySet {
-    /// No day.
+    /// No days.
     pub(crate) fn none() -> DaySet
         ensures { result ≡ [] }
     {
         DaySet { days: None }
     }
 
-    /// These days.
+    /// A set of these days.
     pub(crate) fn of(alloc: Global, days: BTreeSet<i32>) -> Result<DaySet, RecordsFault>
         ensures days { IfOk result (λ set. set ≡ days.keys) }
         ensures fault { IfErr result (λ fault. fault ≡ Memory) }
@@ -44,7 +44,7 @@ impl DaySet {
         Ok(DaySet { days: Some(place) })
     }
 
-    /// Whether a day is one of them.
+    /// Whether a day is in the set.
     pub(crate) fn has(&self, day: &i32) -> bool
         ensures { result ≡ is_closed_on day.now self.now }
     {
@@ -54,7 +54,7 @@ impl DaySet {
         }
     }
 
-    /// Whether they are the same days as others.
+    /// Whether two sets have the same days.
     pub(crate) fn is_same(&self, other: &DaySet) -> bool
         ensures { result ≡ pointwise int_eq self.now other.now }
     {

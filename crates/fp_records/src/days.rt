@@ -27,21 +27,22 @@ impl Model for Days {
 }
 
 impl Days {
-    /// Whether a weekday is one of them.
+    /// Whether a weekday is in the set.
     pub(crate) fn has(self, weekday: Weekday) -> bool
         ensures { result ≡ get_or self (monday_zero weekday) false }
     {
         self.held[usize::from(weekday.index())]
     }
 
-    /// Whether all seven are.
+    /// Whether all seven days are in the set.
     pub fn is_every_day(self) -> bool
         ensures { result ≡ has_every_day self }
     {
         all_set(&self.held)
     }
 
-    /// The days that a text is, where it is one or more of the digits 1 (Monday) to 7 (Sunday), rising.
+    /// The days in a text of one or more digits from 1 (Monday) to 7 (Sunday), rising; `None` for other texts. For
+    /// example, `12345` is Monday to Friday.
     pub(crate) fn from_text(text: &[u8]) -> Option<Days>
         ensures { result ≡ days_of text.now }
     {
@@ -66,7 +67,7 @@ impl Days {
     }
 }
 
-/// Whether each of the flags is set.
+/// Whether each flag is set.
 fn all_set(flags: &[bool]) -> bool
     ensures { result ≡ list_all (λ flag. flag) flags.now }
 {

@@ -1,4 +1,4 @@
-//! Decimal digits, as those of a number or a prefix.
+//! Decimal digits, for example of a number or a prefix.
 
 ghost use Rattle.std.specs.Prelude.{◌≡◌, ◌<◌, ◌≤◌, ◌↔◌, IsTrue, [], ◌∷◌, ◌++◌, length};
 ghost use Rattle.std.specs.List.{All};
@@ -7,9 +7,9 @@ ghost use Rattle.fp_records.specs.Digits.{decimal_of, digits_of, some_digits_of}
 use fp_octets::Octets;
 use std::marker::Model;
 
-/// At most 15 decimal digits, each a value from 0 to 9, the first one first. Contracts see them as a list. Two are
-/// equal exactly where they have the same digits; in their order the first digits that differ decide, and else the one
-/// with fewer digits is the less.
+/// At most 15 decimal digits, each a value from 0 to 9, the first one first. Contracts see them as a list. Two lists
+/// are equal exactly if they have the same digits. In their order the first digits that differ decide; if one list
+/// begins the other, the shorter is the less.
 #[derive(Clone, Copy, Debug, PartialEq, Eq, PartialOrd, Ord)]
 pub struct DecimalDigits {
     digits: Octets<15>,
@@ -31,10 +31,10 @@ impl Model for DecimalDigits {
 }
 
 impl DecimalDigits {
-    /// How many digits there may be.
+    /// The most digits.
     pub const MOST: usize = 15;
 
-    /// How many digits there are.
+    /// The number of digits.
     pub fn len(&self) -> usize
         ensures value { result ≡ length self.now }
         ensures most { result ≤ Self.MOST }
@@ -42,7 +42,7 @@ impl DecimalDigits {
         self.digits.len()
     }
 
-    /// Whether there is no digit.
+    /// Whether there are no digits.
     pub fn is_empty(&self) -> bool
         ensures { IsTrue result ↔ (self.now ≡ []) }
     {
@@ -58,7 +58,7 @@ impl DecimalDigits {
         self.digits.as_slice()
     }
 
-    /// No digit.
+    /// No digits.
     pub(crate) fn none() -> DecimalDigits
         ensures { result ≡ [] }
     {
@@ -67,7 +67,7 @@ impl DecimalDigits {
         }
     }
 
-    /// The digits that a text writes, where it is at most 15 decimal digits and nothing else.
+    /// The digits in a text of at most 15 decimal digits; `None` for other texts.
     pub(crate) fn from_text(text: &[u8]) -> Option<DecimalDigits>
         ensures { result ≡ digits_of text.now }
     {
@@ -84,7 +84,7 @@ impl DecimalDigits {
         Some(digits)
     }
 
-    /// The digits, where they are at most 15 and each is 0 to 9.
+    /// The digits of this list, if they are at most 15 and each is 0 to 9.
     pub(crate) fn from_digits(digits: &[u8]) -> Option<DecimalDigits>
         ensures { result ≡ decimal_of digits.now }
     {
@@ -101,7 +101,7 @@ impl DecimalDigits {
         Some(decimal)
     }
 
-    /// Puts a digit after the others, if there is room for it.
+    /// Appends a digit. You must leave room for it.
     pub(crate) fn push(&mut self, digit: u8)
         requires room { length self.old < Self.MOST }
         requires digit { digit < 10 }
@@ -110,7 +110,7 @@ impl DecimalDigits {
         self.digits.push(digit);
     }
 
-    /// The same, of 1 digit or more.
+    /// The digits in a text of 1 to 15 decimal digits; `None` for other texts.
     pub(crate) fn some_from_text(text: &[u8]) -> Option<DecimalDigits>
         ensures { result ≡ some_digits_of text.now }
     {

@@ -7,7 +7,7 @@ use crate::decimal_digits::DecimalDigits;
 use crate::number_key::NumberKey;
 use std::marker::Model;
 
-/// The digits of a destination, 1 to 15 decimal ones, in eight octets. Contracts see them as a list.
+/// The 1 to 15 decimal digits of a destination, in eight octets. Contracts see them as a list.
 #[derive(Clone, Copy, Debug, PartialEq, Eq)]
 pub struct Destination {
     key: NumberKey,
@@ -34,7 +34,7 @@ impl Destination {
         self.key.digits()
     }
 
-    /// The destination that a text is, where it is 1 to 15 decimal digits and nothing else.
+    /// The destination in a text of 1 to 15 decimal digits; `None` for other texts.
     pub(crate) fn from_text(text: &[u8]) -> Option<Destination>
         ensures { result ≡ some_digits_of text.now }
     {

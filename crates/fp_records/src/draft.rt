@@ -1,4 +1,4 @@
-//! What the text of a records file says, before the table is made of it.
+//! The contents of a records file, before the table is made of them.
 
 ghost use Rattle.std.specs.Prelude.{◌≡◌, ◌≤ℤ◌, List, ℕ, neg_ℤ, pos, IfOk};
 ghost use Rattle.fp_records.specs.File.{records_of};

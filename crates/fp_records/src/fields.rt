@@ -1,4 +1,4 @@
-//! The rule that the fields of a record are.
+//! The rule in the fields of a record.
 
 ghost use Rattle.std.specs.Prelude.{◌≡◌, ℕ, List, MatchResult, Some, None};
 ghost use Rattle.fp_records.specs.declared.fault.Reason.TheVariants.{FieldCount};
@@ -17,7 +17,7 @@ use crate::weight::Weight;
 use crate::window::{LAST_END, LAST_START, Window, time_of};
 use csv::ByteRecord;
 
-/// How many fields a rule has before its destinations.
+/// The number of fields of a rule before its destinations.
 const FIELDS: usize = 7;
 
 /// The word of an action.
@@ -31,7 +31,7 @@ pub enum Verb {
     Pass,
 }
 
-/// A rule, and the number that it is for.
+/// A rule with its number.
 #[derive(Clone, Copy)]
 pub struct NumberedRule {
     /// The digits of the number.
@@ -56,7 +56,7 @@ impl Verb {
     }
 }
 
-/// The text of a field that the record has.
+/// The text of a field, or [`Reason::FieldCount`] if the record doesn't have it.
 fn field(row: &ByteRecord, place: usize) -> Result<&[u8], Reason>
     ensures { MatchResult result (λ text. field_at (fields_of row.now) place ≡ Some text.now) (λ reason. (reason ≡ FieldCount) × (field_at (fields_of row.now) place ≡ None)) }
 {
@@ -154,7 +154,7 @@ fn four_in(row: &ByteRecord) -> Result<Destinations, Reason>
     Ok(Destinations::Four([first, second, third, fourth]))
 }
 
-/// An action that takes no destinations.
+/// An action without destinations.
 fn alone(row: &ByteRecord, action: Action) -> Result<Action, Reason>
     ensures { result ≡ alone (fields_of row.now) action }
 {
@@ -202,9 +202,8 @@ fn rule_in(row: &ByteRecord) -> Result<Rule, Reason>
     })
 }
 
-/// The rule that a record is, and the number that it is for, or what is first wrong with it: its
-/// fields are tested from left to right as far as they are there, their count after the action, and
-/// the destinations last.
+/// The rule in a record with its number, or its first fault. The fields are checked from left to
+/// right, as far as there are any, their count after the action, and the destinations last.
 pub(crate) fn numbered_in(row: &ByteRecord) -> Result<NumberedRule, Reason>
     ensures { result ≡ numbered_in (fields_of row.now) }
 {

@@ -1,4 +1,4 @@
-//! What the records after the head say, by numbers.
+//! The rules and closed days after the head, by numbers.
 
 ghost use Rattle.std.specs.Prelude.{◌≡◌, IfErr, IfOk, OnOk};
 ghost use Rattle.csv.specs.Records.{fields_of};
@@ -13,7 +13,7 @@ use crate::version::Version;
 use csv::ByteRecord;
 use std::alloc::Global;
 
-/// The rules and the closed days that were read so far.
+/// The rules and the closed days read so far.
 #[derive(Drop)]
 pub(crate) struct Gathering {
     pub(crate) rules: Groups,
@@ -23,8 +23,8 @@ pub(crate) struct Gathering {
 impl Gathering {
     ghost use Rattle.fp_records.specs.Gathered.{Gathers, HasRoom, Takes, accepted, has_room_for};
 
-    /// The rules and closed days of the remaining records, or the first of their faults. Each record is read
-    /// into the same row.
+    /// The rules and closed days of the remaining records, or their first fault. All records are read into the same
+    /// row.
     pub(crate) fn read(
         alloc: Global,
         version: Version,
@@ -47,7 +47,7 @@ impl Gathering {
         Ok(gathering)
     }
 
-    /// What a record says, if there is room for it.
+    /// The rule or closed day in a record, if it is within the limits.
     fn accepted(&self, version: Version, row: &ByteRecord) -> Result<Item, Reason>
         ensures value { result ≡ accepted self.now version (fields_of row.now) }
         ensures room { IfOk result (HasRoom self.now) }
@@ -70,7 +70,7 @@ impl Gathering {
         }
     }
 
-    /// Adds an item, for which there is room.
+    /// Adds a rule or a closed day, which must be within the limits.
     fn add(&mut self, alloc: Global, item: &Item) -> Result<(), RecordsFault>
         requires room { HasRoom self.old item.now }
         ensures added { OnOk result (Takes self.old item.now self.new) }

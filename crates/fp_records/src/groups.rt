@@ -1,4 +1,4 @@
-//! The rules of a file by their numbers, while it is read.
+//! The rules of a file by their numbers, during its reading.
 
 ghost use Rattle.std.specs.Prelude.{◌≡◌, ◌+◌, ◌≤◌, ◌≤ℤ◌, pos, neg_ℤ, IsTrue, [], IfErr, IfOk, OnErr, OnOk, bytes_eq, is_some, length, map, if◌then◌else◌};
 ghost use Rattle.std.specs.Cmp.Lexicographic.{slice_cmp};
@@ -27,7 +27,7 @@ const MOST_RULES: usize = 100_000;
 /// The most rules of a number.
 const MOST_OF_NUMBER: usize = 1_000;
 
-/// The rules that were read so far, by the digits of their numbers.
+/// The rules read so far, by the digits of their numbers.
 #[derive(Drop)]
 pub(crate) struct Groups {
     count: usize,
@@ -59,7 +59,7 @@ impl Groups {
         }
     }
 
-    /// How many rules there are.
+    /// The number of rules.
     pub(crate) fn count(&self) -> usize
         ensures value { result ≡ self.now.count }
         ensures most { result ≤ 100000 }
@@ -67,8 +67,8 @@ impl Groups {
         self.count
     }
 
-    /// Whether a rule of this number is within the limits. Each number has a rule, so none has many while there are few
-    /// more rules than numbers.
+    /// Whether one more rule of this number is within the limits. Each number has a rule. So if there are few more
+    /// rules than numbers, no number has many, and the search for this one is skipped.
     pub(crate) fn has_room(&self, number: &NumberKey) -> bool
         ensures { result ≡ has_room self.now number.now }
     {
@@ -77,7 +77,7 @@ impl Groups {
                 || self.count_of(number) < MOST_OF_NUMBER)
     }
 
-    /// How many rules a number has.
+    /// The number of rules of this number.
     fn count_of(&self, number: &NumberKey) -> usize
         ensures { result ≡ length (group_of number.now self.now) }
     {
@@ -87,7 +87,7 @@ impl Groups {
         }
     }
 
-    /// Puts a rule after those of its number, for which there is room.
+    /// Adds a rule after the others of its number. It must be within the limits.
     pub(crate) fn add(&mut self, alloc: Global, numbered: &NumberedRule) -> Result<(), RecordsFault>
         requires room { IsTrue (has_room self.old numbered.now.number) }
         requires decimal { IsTrue (is_decimal numbered.now.number) }
@@ -104,8 +104,8 @@ impl Groups {
         Ok(())
     }
 
-    /// The record of each number, in the order of the numbers, with its closed days, and local time this number of minutes
-    /// east of UTC.
+    /// The records of all numbers, in the order of the numbers, each with its closed days. Local time is this number of
+    /// minutes east of UTC.
     pub(crate) fn into_records(
         self,
         alloc: Global,
@@ -128,7 +128,7 @@ impl Groups {
     }
 }
 
-/// Puts a value after the others of the list at a number. Most numbers have one rule: so a list of this one is put there at
+/// Appends a value to the list of a number. Most numbers have one rule, so a list with just this value is inserted
 /// first.
 fn push_at<T: Copy + Drop>(
     lists: &mut BTreeMap<NumberKey, Vec<T>>,

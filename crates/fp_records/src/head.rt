@@ -8,25 +8,26 @@ use crate::number::number_up_to;
 use crate::row::three_fields;
 use csv::ByteRecord;
 
-/// The highest service key.
+/// The greatest service key.
 const MOST_KEY: u64 = 2147483647;
 
-/// The most minutes that local time is west of UTC.
+/// The most minutes of local time west of UTC.
 const MOST_WEST: u64 = 720;
 
-/// The most minutes that local time is east of UTC.
+/// The most minutes of local time east of UTC.
 const MOST_EAST: u64 = 840;
 
-/// What the head says.
+/// The fields of the head.
 #[derive(Clone, Copy, PartialEq, Eq)]
 pub struct Head {
     /// The service key.
     pub(crate) key: u32,
-    /// How many minutes local time is east of UTC.
+    /// The minutes of local time east of UTC.
     pub(crate) offset: i16,
 }
 
-/// The minutes east of UTC, -720 to 840, that a text writes: decimal digits, after a `-` or not.
+/// The minutes east of UTC, -720 to 840, in a text of decimal digits, with `-` before them or not.
+/// For example, `-300` is five hours west.
 fn offset_of(text: &[u8]) -> Option<i16>
     ensures value { result ≡ offset_of text.now }
     ensures west { IfSome result (λ offset. neg_ℤ (pos 720) ≤ℤ offset) }
@@ -44,7 +45,7 @@ fn offset_of(text: &[u8]) -> Option<i16>
     }
 }
 
-/// The head that a record is, if it is one.
+/// The head in a record, if it is one.
 #[tactic(auto, using(crate::proofs::Places::head_of_others))]
 pub(crate) fn head_of(row: &ByteRecord) -> Option<Head>
     ensures value { result ≡ head_of (fields_of row.now) }

@@ -1,4 +1,4 @@
-//! What a record after the head says.
+//! The rule or closed day in a record after the head.
 
 ghost use Rattle.std.specs.Prelude.{◌≡◌};
 ghost use Rattle.csv.specs.Records.{fields_of};
@@ -11,16 +11,16 @@ use crate::row::begins_with;
 use crate::version::Version;
 use csv::ByteRecord;
 
-/// What a record after the head says.
+/// The rule or closed day in a record after the head.
 #[derive(Clone, Copy)]
 pub enum Item {
     /// A rule of a number.
     Rule(NumberedRule),
-    /// A day on which a number is closed.
+    /// A closed day of a number.
     Closed(ClosedDay),
 }
 
-/// What a record of a file of this version says, or what is first wrong with it.
+/// The rule or closed day in a record, for a file of this version, or its first fault.
 pub(crate) fn item_in(version: Version, row: &ByteRecord) -> Result<Item, Reason>
     ensures { result ≡ item_in version (fields_of row.now) }
 {

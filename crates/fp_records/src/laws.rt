@@ -1,9 +1,9 @@
-//! What holds of the closed days of every file.
+//! A law of the closed days of every file.
 
 ghost use Rattle.fp_records.specs.Laws.{ClosedDaysAreThoseOfTheFile};
 
-/// A number is closed on a day exactly if the file has a closed day with this number and this day, whatever
-/// other closed days it has, and in whatever order.
+/// A number is closed on a day exactly if the file has a closed day with this number and this day. The other closed
+/// days and their order don't matter.
 pub fn closed_days_are_those_of_the_file()
     ensures { ClosedDaysAreThoseOfTheFile }
 {}

@@ -1,33 +1,30 @@
-//! The number translation records that a freephone service control point answers from.
+//! The number translation records of a freephone service control point.
 //!
-//! The records are a CSV file without a header row. Its head is `key,SERVICEKEY,OFFSET`: the service key
-//! that the records are for, and the minutes that local time is east of UTC. It is the first record, or in
-//! version 2 the second, after `fprecords,2`. Each other record is one rule of a number,
-//! `number,prefix,days,from,to,weight,action` and then destinations. A file of version 2 may have records
-//! `closed,NUMBER,YYYY-MM-DD` among the rules: on that day no rule of the number fits.
+//! The records are a CSV file without a header row. Its head is `key,SERVICEKEY,OFFSET`: the service key of the
+//! records, and the minutes of local time east of UTC. It is the first record, or in version 2 the second, after
+//! `fprecords,2`. Each other record is one rule of a number, `number,prefix,days,from,to,weight,action` and then
+//! destinations. For example, `80012,,12345,08:00,18:00,1,route,3012345` routes calls on working days. A file of
+//! version 2 may have records `closed,NUMBER,YYYY-MM-DD` among the rules: on that day no rule of the number fits.
 //!
-//! The layer is handed the text of the file, an allocator, a called and a calling number and a
-//! moment. It never asks the system for a file, the time or anything else.
+//! This layer gets the text of the file, an allocator, a called and a calling number and a moment. It never asks the
+//! system for a file, the time or anything else.
 //!
-//! - [`Table`] is the records of a file. [`Table::read`] reads it, [`Table::read_and_free`] frees the
-//!   text before it makes the table, and [`Table::find`] finds the
-//!   [`Record`] of a called number by its digits. It has an index among the tables of a run, 0 as
-//!   it is read: [`Table::numbered`] gives it another one, and [`Table::index`] says it.
-//! - [`Record`] is the rules of one number, and [`Record::choose`] is the [`Rule`] that a call gets:
-//!   by the calling number's prefix, the day, the minute and the rules' shares. Two records, rules or
-//!   destinations are equal by `==` exactly if they say the same.
+//! - [`Table`] has the records of a file. [`Table::read`] reads it, [`Table::read_and_free`] frees the text before it
+//!   makes the table, and [`Table::find`] finds the [`Record`] for a called number by its digits. It has an index among
+//!   the tables of a run, 0 after reading; [`Table::numbered`] changes it, and [`Table::index`] returns it.
+//! - [`Record`] has the rules of one number, and [`Record::choose`] returns the [`Rule`] for a call, by the calling
+//!   number's prefix, the day, the minute and the rules' shares. Two records, rules or destinations are equal by `==`
+//!   exactly if their contents are the same.
 //! - [`migrate`] writes the records of a file as one of version 2.
-//! - [`Destinations`] are those of a rule that routes. [`Destinations::split_first`] is the one that
-//!   is tried next and those that are left.
-//! - [`RecordsFault`] says why a text is no table: the first faulty record and its [`Reason`], or
-//!   out of memory.
+//! - [`Destinations`] are the destinations of a rule with `route`. [`Destinations::split_first`] returns the next one
+//!   to try and the others.
+//! - [`RecordsFault`] says why a text isn't a table: the first faulty record and its [`Reason`], or out of memory.
 //!
-//! The layer above may rely on this: a table is what the text says and nothing else (`IsTable` of
-//! `specs/Table.antt` and `IsFile` of `specs/File.antt`), a fault names the first faulty record
-//! (`FirstFault`), a choice is `choice` of `specs/Choice.antt`, a record has a rule at least, and only
-//! [`Table::read`], [`Table::read_and_free`] and [`migrate`] take memory. Six types of the reader are `pub` in their private modules, so that
-//! the contracts of other crates can name what these definitions name: `Version`, `Head`, `Item`, `ClosedDay`,
-//! `NumberedRule` and `Verb`.
+//! The layer above may rely on this: a table has exactly the contents of its text (`IsTable` of `specs/Table.antt` and
+//! `IsFile` of `specs/File.antt`). A fault names the first faulty record (`FirstFault`), and a choice is `choice` of
+//! `specs/Choice.antt`. Each record has at least one rule. Only [`Table::read`], [`Table::read_and_free`] and
+//! [`migrate`] take memory. Six types of the reader are `pub` in their private modules, so that the contracts of other
+//! crates can name them: `Version`, `Head`, `Item`, `ClosedDay`, `NumberedRule` and `Verb`.
 #![tactic(auto)]
 
 mod action;

@@ -9,7 +9,7 @@ use jiff::Timestamp;
 use jiff::civil::Weekday;
 use jiff::tz::Offset;
 
-/// A day, its weekday, and a minute of it.
+/// A day, its weekday, and a minute of the day.
 #[derive(Clone, Copy)]
 pub(crate) struct LocalTime {
     /// The number of the day, 0 for 1970-01-01.
@@ -18,8 +18,7 @@ pub(crate) struct LocalTime {
     pub(crate) minute: u16,
 }
 
-/// The day, the weekday and the minute of the day at a moment, with local time this number of minutes east
-/// of UTC.
+/// The day, the weekday and the minute of the day at a moment. Local time is this number of minutes east of UTC.
 pub(crate) fn local_time(moment: Moment, offset: i16) -> LocalTime
     requires west { neg_ℤ (pos 720) ≤ℤ offset }
     requires east { offset ≤ℤ pos 840 }

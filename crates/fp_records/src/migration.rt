@@ -1,4 +1,4 @@
-//! The records of a file as the text of a file of version 2.
+//! The records of a file, as a text of version 2.
 
 ghost use Rattle.std.specs.Prelude.{◌≡◌, ◌⊎◌, ◌++◌, ℕ, List, Err, IfErr, IfOk, IsErrAnd, OnErr, OnOk};
 ghost use Rattle.csv.specs.Records.{fields_of};
@@ -16,15 +16,14 @@ use crate::version::read_start;
 use csv::{ByteRecord, Writer, WriterBuilder};
 use std::alloc::Global;
 
-/// Appends the records of a file to a vector as the text of a file of version 2.
+/// Appends the records of a file to a vector as a text of version 2.
 ///
-/// That is the record `fprecords,2` and then the file's records from its head on, in their order, each ended
-/// by a line feed. Fields are unchanged (`0100` is not made `100`), and none needs quotes. What was appended
-/// comes out as it is when it is migrated, and reads as the same file, so its table has the same key, counts,
-/// records and choices.
+/// The text is the record `fprecords,2` and then the file's records from its head on, in their order, each ended by a
+/// line feed. Fields are unchanged (`0100` isn't made `100`), and none needs quotes. Migrating the appended text gives
+/// the same text. It is read as the same file, so its table has the same key, counts, records and choices.
 ///
-/// The fault is that of [`Table::read`] for the text: the first faulty record, or `Memory`. The vector is
-/// unchanged then.
+/// The fault is the one of [`Table::read`] for the text: the first faulty record, or `Memory`. After a fault the vector
+/// is unchanged.
 pub fn migrate(alloc: Global, text: &[u8], out: &mut Vec<u8>) -> Result<(), RecordsFault>
     ensures text { OnOk result (out.new.items ≡ out.old.items ++ migrated (records_of text.now)) }
     ensures same { OnOk result (KeepsFile (records_of text.now)) }
@@ -36,7 +35,7 @@ pub fn migrate(alloc: Global, text: &[u8], out: &mut Vec<u8>) -> Result<(), Reco
     ensures fault { (at : ℕ) (reason : Reason) → FirstFault (records_of text.now) at reason → IsErrAnd result (λ fault. (fault ≡ RecordsFault.Record at reason) ⊎ (fault ≡ RecordsFault.Memory)) }
 {
     drop(Table::read(alloc, text)?);
-    // The text was read as a table, so a fault is one of memory.
+    // The text was read as a table, so only memory can run out.
     let Ok(migrated) = in_version_two(alloc, text) else {
         return Err(RecordsFault::Memory);
     };
@@ -84,7 +83,7 @@ fn put(writer: &mut Writer<Vec<u8>>, row: &ByteRecord) -> Result<(), RecordsFaul
     Ok(())
 }
 
-/// Writes the records that are left, each read into the same row.
+/// Writes the remaining records, each read into the same row.
 fn put_others(
     writer: &mut Writer<Vec<u8>>,
     records: &mut RecordReader<'_>,

@@ -3,8 +3,8 @@
 ghost use Rattle.std.specs.Prelude.{◌≡◌, ◌<◌, ◌≤◌, IfSome};
 ghost use Rattle.fp_records.specs.Number.{number_up_to};
 
-/// The number that a text of decimal digits writes, if it is such a text and writes at most
-/// `most`. Leading zeros are fine, however many.
+/// The number in a text of decimal digits, if it is at most `most`. Any number of leading zeros is
+/// fine. For example, `007` is 7.
 #[tactic(auto, using(crate::proofs::Digits::up_to_steps))]
 pub(crate) fn number_up_to(most: u64, text: &[u8]) -> Option<u64>
     requires { most < 4294967296 }

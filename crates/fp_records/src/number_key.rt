@@ -1,4 +1,4 @@
-//! Digits of numbers as keys.
+//! The digits of numbers, as keys.
 
 ghost use Rattle.std.specs.Prelude.{◌≡◌, ◌<◌, ◌≤◌, length, nat_eq, refl};
 ghost use Rattle.std.specs.Cmp.{partial_equiv_from_equiv, partial_order_from_agreeing_total};
@@ -11,18 +11,19 @@ use crate::decimal_digits::DecimalDigits;
 use std::cmp::Ordering;
 use std::marker::Model;
 
-/// What the highest place of a code counts.
+/// The value of the highest place of a code.
 const FIRST_PLACE: u64 = 1 << 56;
 
-/// What the lowest bit of the higher half of a code counts.
+/// The value of the lowest bit of the higher half of a code.
 const HALF: u64 = 1 << 32;
 
-/// At most 15 decimal digits in eight octets: two are compared as one machine word each. Contracts see them as a list.
-/// Their order is that of [`DecimalDigits`].
+/// At most 15 decimal digits in eight octets, which compare as one machine word each. Contracts see them as a list.
+/// Their order is the one of [`DecimalDigits`].
 #[derive(Clone, Copy, Debug)]
 pub struct NumberKey {
-    // Four bits for each of 15 places: one more than the digit, the first digit in the highest place, and 0 after the
-    // last one. They are in two halves, so that a rule with destinations has no octets left out.
+    // Four bits for each of 15 places: the digit plus one, the first digit in the highest place, and 0 after the last
+    // one. For example, 12 is 2 and 3 in the two highest places. There are two halves, so that a rule with destinations
+    // has no padding.
     low: u32,
     high: u32,
 }
@@ -42,7 +43,7 @@ impl Model for NumberKey {
     ghost inverse_ok = { λ key is i. record { low = low-again key.high key.low is i; high = high-again key.high key.low is i } };
 }
 
-/// Two are equal exactly where they have the same digits.
+/// Two keys are equal exactly if they have the same digits.
 impl PartialEq for NumberKey {
     ghost eq = { λ a b. pointwise nat_eq a b };
 
@@ -67,7 +68,7 @@ impl PartialOrd for NumberKey {
     }
 }
 
-/// The first digits that differ decide, and else the one with fewer digits is the less.
+/// The first digits that differ decide. If one list of digits begins the other, the shorter is the less.
 impl Ord for NumberKey {
     ghost cmp = { slice_cmp nat_cmp };
 
@@ -82,8 +83,8 @@ impl Ord for NumberKey {
     }
 }
 
-/// The order of two numbers. Whether the first is above is tested first: that is all that a search through the keys of a
-/// map asks at most of them.
+/// The order of two numbers. "Greater" is tested first, since a search through the keys of a map mostly asks only for
+/// that.
 #[inline(always)]
 fn order_of(one: u64, other: u64) -> Ordering
     ensures { result ≡ nat_cmp one other }
@@ -97,7 +98,7 @@ fn order_of(one: u64, other: u64) -> Ordering
     }
 }
 
-/// The code of digits.
+/// The code of these digits.
 fn code_in(digits: &[u8]) -> u64
     requires few { length digits.now ≤ 15 }
     requires decimal { All (λ digit. digit < 10) digits.now }

@@ -10,8 +10,8 @@ use csv::{ByteRecord, Reader, ReaderBuilder};
 use std::alloc::Global;
 use std::marker::Model;
 
-/// Reads the records of a text, whatever the number of their fields, and counts them. Contracts see
-/// it as how many records were read and those that are left.
+/// Reads the records of a text, with any number of fields, and counts them. Contracts see the
+/// number of records read, and the remaining records.
 #[derive(Drop)]
 pub(crate) struct RecordReader<'a> {
     reader: Reader<&'a [u8]>,
@@ -47,14 +47,14 @@ impl<'a> RecordReader<'a> {
         }
     }
 
-    /// How many records were read.
+    /// The number of records read.
     pub(crate) fn place(&self) -> usize
         ensures { result ≡ self.now.place }
     {
         self.place
     }
 
-    /// Reads the next record into a row, and gives its place in the text, or `None` where no record
+    /// Reads the next record into a row, and gives its number in the text, or `None` if no record
     /// is left. The first record is 1, and empty lines are no records.
     pub(crate) fn read(&mut self, row: &mut ByteRecord) -> Result<Option<usize>, RecordsFault>
         ensures next { IfOk result (λ at. ReadsNext self.old self.new (fields_of row.new) at) }
@@ -64,8 +64,8 @@ impl<'a> RecordReader<'a> {
             return Ok(None);
         }
         self.has_ended = true;
-        // A text in memory has no failure of its own, records may differ in length and their
-        // fields are octets: what is left of the reader's errors is out of memory.
+        // A text in memory has no failure of its own, records may differ in length and their fields
+        // are octets: the only remaining error of the reader is out of memory.
         let Ok(found) = self.reader.read_byte_record(row) else {
             return Err(RecordsFault::Memory);
         };

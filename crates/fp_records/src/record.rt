@@ -1,4 +1,4 @@
-//! The rules of a number, and the choice among them.
+//! The rules of a number, and the choice of one of them.
 
 ghost use Rattle.std.specs.Prelude.{◌≡◌, ◌≤◌, ◌+◌, ℕ, filter, length, max, option_map, ◌≢◌, [], ◌∷◌, IfNone, IfSome};
 ghost use Rattle.jiff_core.specs.Weekday.{monday_zero};
@@ -12,8 +12,8 @@ use crate::rule::{KeptRule, Rule};
 use fp_digits::{Moment, Number};
 use std::marker::Model;
 
-/// The rules of one number, at least one and at most 1,000, in the order of the file, and the days on which
-/// it is closed. Contracts see it as its `Rules`.
+/// The rules of one number, 1 to 1,000 of them, in the order of the file, and its closed days. Contracts see it as its
+/// `Rules`.
 #[derive(Debug, Drop)]
 pub struct Record {
     offset: i16,
@@ -31,9 +31,9 @@ impl Model for Record {
     ghost invariant = { λ record_of. IsRules (record { offset = record_of.offset; rules = record_of.rules.items; closed = record_of.closed }) };
 }
 
-/// Two are equal exactly if they say the same: the same offset, the same closed days, and the same rules in
-/// the same order (`exact_record` of `specs/Same.antt`). Comparing takes no memory, and at most as many steps
-/// as there are closed days and rules.
+/// Two records are equal exactly if they have the same offset, the same closed days, and the same rules in the same
+/// order (`exact_record` of `specs/Same.antt`). A comparison takes no memory, and at most one step for each closed day
+/// and each rule.
 impl PartialEq for Record {
     ghost use Rattle.fp_records.specs.Same.{same_record, same_record_per};
 
@@ -54,7 +54,7 @@ impl Eq for Record {
     ghost laws = { same_record_equiv };
 }
 
-/// The longest prefix of the rules that fit, and the sum of the weights of those that have it.
+/// The longest prefix of the fitting rules, and the sum of the weights of the rules with that length.
 #[derive(Clone, Copy)]
 struct Share {
     longest: usize,
@@ -62,8 +62,8 @@ struct Share {
 }
 
 impl Record {
-    /// The record of these rules, at most 1,000, with local time this number of minutes east of UTC, and
-    /// closed on these days.
+    /// The record with these rules, 1 to 1,000, and these closed days. Local time is this number of minutes east of
+    /// UTC.
     pub(crate) fn new(offset: i16, rules: Vec<KeptRule>, closed: DaySet) -> Record
         requires { IsRules (record { offset = offset; rules = rules.items; closed = closed }) }
         ensures { result ≡ record { offset = offset; rules = rules.items; closed = closed } }
@@ -75,7 +75,7 @@ impl Record {
         }
     }
 
-    /// The rule of a number that has just one, and `None` where it has more.
+    /// The rule of a number with just one rule, and `None` if there are more.
     pub fn only_rule(&self) -> Option<&Rule>
         ensures some { IfSome result (λ rule. self.now.rules ≡ rule.now ∷ []) }
         ensures none { IfNone result (length self.now.rules ≢ 1) }
@@ -90,13 +90,14 @@ impl Record {
         Some(kept.rule())
     }
 
-    /// The rule that a call gets, `None` where no rule fits.
+    /// The rule for a call; `None` if no rule fits.
     ///
-    /// On a day on which the number is closed, by local time, no rule fits. Otherwise a rule fits when its
-    /// prefix begins the calling digits (if there is no calling number, only the empty prefix does), its
-    /// days have the weekday and its window holds the minute of the moment, both in local time. Of the
-    /// rules that fit those of the longest prefix are kept, in the file's order. With weights `w1..wk` of sum
-    /// `W`, the first of them with `w1 + .. + wi > birth mod W` is the choice.
+    /// If the number is closed on the day, in local time, no rule fits. Otherwise a rule fits if its prefix begins the
+    /// calling digits (without a calling number only the empty prefix does), its days contain the weekday and its
+    /// window contains the minute of the moment, both in local time. Of the fitting rules only those with the longest
+    /// prefix count, in the file's order. With weights `w1..wk` of sum `W`, the choice is the first one with `w1 + .. +
+    /// wi > birth mod W`. For example, with weights 3 and 1, births 0, 1, 2, 4 choose the first rule, and 3 and 7 the
+    /// second.
     pub fn choose(&self, calling: Option<&Number>, moment: Moment, birth: u64) -> Option<&Rule>
         ensures { option_map (λ rule. rule.now) result ≡ choice self.now (calling_digits calling.entry) moment birth }
     {
@@ -112,7 +113,7 @@ impl Record {
     }
 }
 
-/// The digits of a calling number, none where there is none.
+/// The digits of the calling number, or none if there is no calling number.
 fn calling_digits(calling: Option<&Number>) -> &[u8]
     ensures { result.now ≡ calling_digits calling.entry }
 {
@@ -122,7 +123,7 @@ fn calling_digits(calling: Option<&Number>) -> &[u8]
     }
 }
 
-/// The rule that a call gets.
+/// The rule for a call.
 fn chosen<'a>(rules: &'a [KeptRule], call: &Call<'_>, birth: u64) -> Option<&'a Rule>
     requires { length rules.now ≤ 1000 }
     ensures { option_map (λ rule. rule.now) result ≡ by_share birth (most_exact (filter (fits call.now.calling.now (monday_zero call.now.time.weekday + 1) call.now.time.minute) rules.now)) }
@@ -154,7 +155,7 @@ fn share_of(rules: &[KeptRule], call: &Call<'_>) -> Share
 }
 
 impl Share {
-    /// The share with one more rule that fits.
+    /// The share after one more fitting rule.
     fn with(self, rule: &Rule) -> Share
         requires { self.total ≤ 999000 }
         ensures longest { result.longest ≡ max self.longest (length rule.now.prefix) }
@@ -179,8 +180,7 @@ impl Share {
     }
 }
 
-/// The first rule that fits and has the longest prefix at which the sum of the weights goes above the
-/// draw.
+/// Of the fitting rules with the longest prefix, the first one whose weight brings the sum above the draw.
 fn rule_at<'a>(
     rules: &'a [KeptRule],
     call: &Call<'_>,

@@ -17,7 +17,7 @@ pub(crate) fn begins_with(row: &ByteRecord, word: &[u8]) -> bool
     }
 }
 
-/// The fields of a record that has two.
+/// The fields of a record with two.
 #[tactic(auto, using(crate::proofs::Places::field_within, crate::proofs::Places::two))]
 pub(crate) fn two_fields(row: &ByteRecord) -> Option<(&[u8], &[u8])>
     ensures { MatchOption result (length (fields_of row.now) ≢ 2) (λ fields. fields_of row.now ≡ fields.0.now ∷ fields.1.now ∷ []) }
@@ -34,7 +34,7 @@ pub(crate) fn two_fields(row: &ByteRecord) -> Option<(&[u8], &[u8])>
     Some((first, second))
 }
 
-/// The fields of a record that has three.
+/// The fields of a record with three.
 #[tactic(auto, using(crate::proofs::Places::field_within, crate::proofs::Places::three))]
 pub(crate) fn three_fields(row: &ByteRecord) -> Option<(&[u8], &[u8], &[u8])>
     ensures { MatchOption result (length (fields_of row.now) ≢ 3) (λ fields. fields_of row.now ≡ fields.0.now ∷ fields.1.now ∷ fields.2.now ∷ []) }

@@ -9,23 +9,23 @@ use crate::weight::Weight;
 use crate::window::Window;
 use std::marker::Model;
 
-/// A rule of a number: which calls it fits, its share of them, and what it does. Two are equal exactly where they say
-/// the same (`exact_rule` of `specs/Same.antt`).
+/// A rule of a number: the calls that it fits, its share of them, and its action. Two are equal exactly if all fields
+/// are the same (`exact_rule` of `specs/Same.antt`).
 #[derive(Clone, Copy, Debug, PartialEq, Eq)]
 pub struct Rule {
-    /// The calling numbers that it fits begin with these digits.
+    /// The first digits of the calling numbers that it fits.
     pub prefix: DecimalDigits,
-    /// The weekdays on which it fits.
+    /// The weekdays of the rule.
     pub days: Days,
-    /// The part of each of these days in which it fits.
+    /// The part of these days in which it fits.
     pub window: Window,
     /// Its share of the calls.
     pub weight: Weight,
-    /// What it does with a call.
+    /// Its action for a call.
     pub action: Action,
 }
 
-/// A rule as a list keeps it. Contracts see it as the rule.
+/// A rule in a list. Contracts see it as the rule.
 #[derive(Clone, Copy, Debug, PartialEq, Eq)]
 pub(crate) struct KeptRule {
     rule: Rule,

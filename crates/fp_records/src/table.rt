@@ -15,7 +15,7 @@ use std::alloc::Global;
 use std::marker::Model;
 use std::sync::Arc;
 
-/// The records of one service key, with their index among the tables of a run. Contracts see it as its `Contents`.
+/// The records for one service key, with their index among the tables of a run. Contracts see it as its `Contents`.
 #[derive(Debug, Drop)]
 pub struct Table {
     index: u16,
@@ -55,26 +55,24 @@ impl Table {
     /// The last index among the tables of a run without a tag.
     pub const LAST_INDEX_WITHOUT_TAG: u16 = 999;
 
-    /// Reads the text of a records file, as the first table of a run, whose index is 0.
+    /// Reads the text of a records file. The index is 0, for the first table of a run.
     ///
-    /// A text whose first field is `fprecords` is of version 2: record 1 is `fprecords,2`, record 2 its head,
-    /// and each other record a rule or, if it begins with `closed`, a closed day. Another text is of version
-    /// 1: record 1 is its head, and each other record a rule.
+    /// A text whose first field is `fprecords` is of version 2: record 1 is `fprecords,2`, record 2 its head, and each
+    /// other record a rule or, if it begins with `closed`, a closed day. Any other text is of version 1: record 1 is
+    /// its head, and each other record a rule.
     ///
-    /// The fault is the first one from the top, by the number of its record (the first is 1, and empty
-    /// lines are no records) and the first reason that fits it:
+    /// The fault is the first one from the top, by the number of its record (the first is 1, and empty lines are no
+    /// records), with the first reason that applies:
     ///
-    /// - `BadVersion`: record 1 begins with `fprecords` and is not `fprecords,2`.
-    /// - `BadHead`: the head is not `key,SERVICEKEY,OFFSET` (0 to 2147483647, and -720 to 840), or there is
-    ///   none.
-    /// - For a rule, what is wrong with its fields from left to right as far as they are there, `FieldCount`
-    ///   after the action, `BadDestination`, and `TooMany` if 100,000 rules or 1,000 of its number come
-    ///   before it.
-    /// - For a closed day, `BadClosed` if it has not three fields, its number is not 1 to 15 decimal digits,
-    ///   or its date is none of the calendar from 1969-12-31 to 2100-01-01, and `TooMany` if 10,000 closed
-    ///   days come before it.
+    /// - `BadVersion`: record 1 begins with `fprecords` and isn't `fprecords,2`.
+    /// - `BadHead`: the head isn't `key,SERVICEKEY,OFFSET` (0 to 2147483647, and -720 to 840), or is missing.
+    /// - For a rule, the first fault of its fields from left to right, as far as there are any; `FieldCount` after the
+    ///   action; `BadDestination`; and `TooMany` if there are already 100,000 rules, or 1,000 of its number.
+    /// - For a closed day, `BadClosed` if it doesn't have three fields, its number isn't 1 to 15 decimal digits, or the
+    ///   calendar from 1969-12-31 to 2100-01-01 doesn't have its date; and `TooMany` if there are already 10,000 closed
+    ///   days.
     ///
-    /// Out of memory is `Memory`. No table is left after a fault.
+    /// The fault `Memory` means out of memory. After a fault there is no table.
     pub fn read(alloc: Global, text: &[u8]) -> Result<Table, RecordsFault>
         ensures answer { Reads result (records_of text.now) }
         ensures file { (file : File) → IsFile (records_of text.now) file → MatchResult result (λ table. IsTable file table) (λ fault. fault ≡ RecordsFault.Memory) }
@@ -83,7 +81,7 @@ impl Table {
         Table::read_in_turn(alloc, text)
     }
 
-    /// Reads a text as [`Table::read`] does, and frees it before the table is made, which takes as much memory again.
+    /// Reads a text as [`Table::read`] does, and frees it before it makes the table, which needs as much memory again.
     pub fn read_and_free(alloc: Global, text: Vec<u8>) -> Result<Table, RecordsFault>
         ensures answer { Reads result (records_of text.items) }
         ensures file { (file : File) → IsFile (records_of text.items) file → MatchResult result (λ table. IsTable file table) (λ fault. fault ≡ RecordsFault.Memory) }
@@ -109,7 +107,7 @@ impl Table {
         Table::of(alloc, draft?)
     }
 
-    /// The table of what was read.
+    /// The table of the draft.
     fn of(alloc: Global, draft: Draft) -> Result<Table, RecordsFault>
         requires west { neg_ℤ (pos 720) ≤ℤ draft.head.offset }
         requires east { draft.head.offset ≤ℤ pos 840 }
@@ -127,14 +125,14 @@ impl Table {
         })
     }
 
-    /// The same records under this index among the tables of a run. Takes no memory.
+    /// The same records with this index among the tables of a run. Takes no memory.
     pub fn numbered(self, index: u16) -> Table
         ensures { result ≡ record self { index = index } }
     {
         Table { index, ..self }
     }
 
-    /// Its index among the tables of a run. Takes no memory.
+    /// The index among the tables of a run. Takes no memory.
     pub fn index(&self) -> u16
         ensures value { result ≡ self.now.index }
         ensures most { result ≤ Self.LAST_INDEX }
@@ -142,7 +140,7 @@ impl Table {
         self.index
     }
 
-    /// How many numbers and how many rules there are.
+    /// The number of numbers and the number of rules.
     pub fn counts(&self) -> (u32, u32)
         ensures numbers { result.0 ≡ length self.now.records }
         ensures rules { result.1 ≡ self.now.rule_count }
@@ -150,23 +148,23 @@ impl Table {
         (self.records.len() as u32, self.rule_count)
     }
 
-    /// How many records of closed days there are: also those of numbers without rules, and each of several
-    /// that name the same day. Takes no memory.
+    /// The number of records with closed days. Numbers without rules count, too, and repeated days count each time.
+    /// Takes no memory.
     pub fn closed(&self) -> u32
         ensures { result ≡ self.now.closed_count }
     {
         self.closed_count
     }
 
-    /// The service key that the records are for.
+    /// The service key of the records.
     pub fn key(&self) -> u32
         ensures { result ≡ self.now.key }
     {
         self.key
     }
 
-    /// The record of a called number, by its digits alone: the nature of address is not looked at, and
-    /// a digit above 9 is no record's.
+    /// The record for a called number, by its digits alone. The nature of address isn't checked. A number with a digit
+    /// above 9 has no record.
     pub fn find(&self, called: &Number) -> Option<&Arc<Record>>
         ensures { option_map (λ found. arc_value found.now) result ≡ record_at self.now called.now.digits }
     {

@@ -1,4 +1,4 @@
-//! The version of a file, and where its head is.
+//! The version of a file, and the position of its head.
 
 ghost use Rattle.std.specs.Prelude.{◌≡◌};
 ghost use Rattle.csv.specs.Records.{fields_of};
@@ -15,11 +15,11 @@ use csv::ByteRecord;
 pub enum Version {
     /// The head is the first record, and every other record is a rule.
     One,
-    /// `fprecords,2` is the first record, the head the second, and each other one a rule or a closed day.
+    /// The first record is `fprecords,2`, the second the head, and every other record a rule or a closed day.
     Two,
 }
 
-/// The version of a file with this first record, `None` if there is no such version.
+/// The version of a file with this first record; `None` if there is no such version.
 #[tactic(auto, using(crate::proofs::Places::names_two_others))]
 fn version_of(row: &ByteRecord) -> Option<Version>
     ensures { result ≡ version_of (fields_of row.now) }
@@ -37,7 +37,7 @@ fn version_of(row: &ByteRecord) -> Option<Version>
     }
 }
 
-/// Reads a text up to the record that should be its head, which the row then has, and gives the version.
+/// Reads a text up to the record that should be its head, leaves that in the row, and gives the version.
 pub(crate) fn read_start(
     records: &mut RecordReader<'_>,
     row: &mut ByteRecord,

@@ -6,8 +6,7 @@ ghost use Rattle.fp_records.specs.Fields.{weight_of};
 use crate::number::number_up_to;
 use std::marker::Model;
 
-/// The weight of a rule, 1 to 1000: how many parts of the calls it gets. Contracts see it as that
-/// number.
+/// The weight of a rule, 1 to 1000: its parts of the calls. Contracts see it as that number.
 #[derive(Clone, Copy, Debug, PartialEq, Eq)]
 pub struct Weight {
     parts: u16,
@@ -38,7 +37,7 @@ impl Weight {
         self.parts
     }
 
-    /// The weight that a text writes, in plain decimal digits.
+    /// The weight in a text of plain decimal digits.
     pub(crate) fn from_text(text: &[u8]) -> Option<Weight>
         ensures { result ≡ weight_of text.now }
     {

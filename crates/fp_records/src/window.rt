@@ -1,18 +1,19 @@
-//! The window of the day in which a rule holds.
+//! The window of the day in which a rule fits.
 
 ghost use Rattle.std.specs.Prelude.{◌≡◌, ◌<◌, ◌≤◌, IfSome};
 ghost use Rattle.fp_records.specs.Window.{holds_minute, minute_at, period_between, time_of, two_digits};
 
 use std::marker::Model;
 
-/// The last minute at which a window may begin, 23:59.
+/// The last possible beginning of a window, 23:59.
 pub(crate) const LAST_START: u16 = 1439;
 
-/// The last minute at which a window may end, 24:00.
+/// The last possible end of a window, 24:00.
 pub(crate) const LAST_END: u16 = 1440;
 
-/// A window of the day: from its first minute on, up to and without the minute of its end. If the
-/// end is before the first minute, it goes over midnight. Contracts see the two as a `Period`.
+/// A window of the day, from its first minute up to the minute of its end, which is outside. If the
+/// end is before the first minute, the window goes past midnight. For example, 22:00 to 06:00
+/// contains 23:59 and 05:59. Contracts see the two as a `Period`.
 #[derive(Clone, Copy, Debug, PartialEq, Eq)]
 pub struct Window {
     from: u16,
@@ -40,7 +41,7 @@ impl Window {
         self.from
     }
 
-    /// The minute after the last one, 0 (00:00) to 1440 (24:00), never [`Window::from`].
+    /// The first minute after the window, 0 (00:00) to 1440 (24:00), never [`Window::from`].
     pub fn to(self) -> u16
         ensures value { result ≡ self.to }
         ensures range { result ≤ 1440 }
@@ -48,7 +49,7 @@ impl Window {
         self.to
     }
 
-    /// Whether a minute of the day, 0 to 1439, lies in the window.
+    /// Whether a minute of the day, 0 to 1439, is in the window.
     pub fn holds(self, minute: u16) -> bool
         ensures { result ≡ holds_minute self minute }
     {
@@ -59,7 +60,7 @@ impl Window {
         }
     }
 
-    /// The window between two minutes, `None` where they are the same.
+    /// The window between two minutes; `None` if they are the same.
     pub(crate) fn between(from: u16, to: u16) -> Option<Window>
         requires first { from < 1440 }
         requires last { to ≤ 1440 }
@@ -73,7 +74,7 @@ impl Window {
     }
 }
 
-/// The number that two decimal digits write.
+/// The number of two decimal digits.
 pub(crate) fn two_digits(tens: u8, ones: u8) -> Option<u16>
     ensures value { result ≡ two_digits tens ones }
     ensures below { IfSome result (λ number. number < 100) }
@@ -85,7 +86,7 @@ pub(crate) fn two_digits(tens: u8, ones: u8) -> Option<u16>
     }
 }
 
-/// The minute of the day that a text `HH:MM` writes, where it is no later than the last one.
+/// The minute of the day in a text `HH:MM`, if it is at most `last`.
 pub(crate) fn time_of(last: u16, text: &[u8]) -> Option<u16>
     ensures { result ≡ time_of last text.now }
 {

@@ -1,4 +1,4 @@
-//! XUDT, unit data that may be a segment of a message (Q.713, 4.18).
+//! XUDT: unit data that may be a segment of a message (Q.713, 4.18).
 
 ghost use Rattle.std.specs.Prelude.{◌≡◌, IfErr, IfOk, slice_index};
 ghost use Rattle.fp_sccp.specs.Fault.{ExtendedFault};
@@ -14,7 +14,7 @@ use crate::{Kind, ProtocolClass, SccpFault, UnitData};
 pub(crate) const EXTENDED_UNIT_DATA: u8 = 0x11;
 /// The octets of an XUDT before its parameters: the type, the class, the hop counter and four pointers.
 const HEAD: usize = 7;
-/// The place of the first pointer.
+/// The position of the first pointer.
 const FIRST: usize = 3;
 
 /// An XUDT, and whether it is a whole message.
@@ -24,7 +24,7 @@ pub(crate) struct Extended<'a> {
     pub(crate) is_whole: bool,
 }
 
-/// Reads octets of the type of an XUDT.
+/// Reads an XUDT. The first octet must be its type.
 pub(crate) fn read_extended(octets: &[u8]) -> Result<Extended<'_>, SccpFault>
     requires { slice_index octets.now 0 ≡ EXTENDED_UNIT_DATA }
     ensures found { IfOk result (λ message.

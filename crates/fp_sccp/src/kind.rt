@@ -1,6 +1,6 @@
 //! The two kinds of unit data.
 
-/// In which of the two messages unit data came.
+/// The message that carries unit data.
 #[derive(Clone, Copy, Debug, PartialEq, Eq)]
 pub enum Kind {
     /// A UDT (Q.713, 4.10). If it can't be delivered, a UDTS is returned.

@@ -1,4 +1,4 @@
-//! What holds of all messages.
+//! Laws of all messages.
 
 ghost use Rattle.fp_sccp.specs.Laws.{AddressesAreReadBack, ExtendedServicesHaveParts, FaultsAreNoMessages, MessagesAreOne, ServicesAreReadBack, UnitDataIsReadBack};
 
@@ -8,8 +8,8 @@ pub fn messages_are_one()
     ensures fault { FaultsAreNoMessages }
 {}
 
-/// A UDT, a UDTS and an address of a point code and a subsystem number are read back from the octets written for them. An
-/// XUDTS, which isn't read, has its parameters where its pointers lead.
+/// A UDT and a UDTS are read back from the octets written for them, and so is an address of a point code and a
+/// subsystem number. An XUDTS isn't read. Its pointers lead to its parameters.
 pub fn written_messages_are_read_back()
     ensures unit_data { UnitDataIsReadBack }
     ensures service { ServicesAreReadBack }

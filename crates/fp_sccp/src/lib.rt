@@ -1,31 +1,32 @@
-//! Unit data of SCCP (ITU-T Q.711 to Q.714): the messages of a signalling network that carry TCAP without a connection.
+//! Unit data of SCCP (ITU-T Q.711 to Q.714): the messages that carry TCAP through a signalling network without a
+//! connection.
 //!
-//! The layer is handed the octets of a message and gives an [`SccpMessage`], or is handed the parts of a message and
-//! gives octets. It asks the system for nothing but the memory of those octets.
+//! This layer reads an [`SccpMessage`] from octets, and writes the octets of a message from its parts. It asks the
+//! system only for the memory of the octets that it writes.
 //!
 //! * [`read`] takes UDT, XUDT and UDTS (Q.713, 4.10, 4.18 and 4.11). [`UnitData`] borrows the addresses and the data
-//!   from the octets; none of them is empty. Octets that aren't read are refused by their first
-//!   [`SccpFault`]; you must discard them (Q.714, 4.4).
-//! * [`SccpMessage`] keeps a whole message apart from a segment of one, so that nobody takes the one for the other.
+//!   from the octets; none of them is empty. Other octets are refused by their first [`SccpFault`]; you must discard
+//!   them (Q.714, 4.4).
+//! * [`SccpMessage`] keeps a whole message apart from a segment, so that nobody takes one for the other.
 //! * [`Address`] is an address to send from or to, as octets. [`point_code_of`] and [`subsystem_of`] read an address by
 //!   its indicator, and never past its octets (Q.713, 3.4).
-//! * [`write_unit_data`] writes a UDT, [`write_service`] the UDTS or XUDTS by which unit data are returned to a
-//!   sender that wants them back, and [`write_allowed`] the answer to a subsystem test.
+//! * [`write_unit_data`] writes a UDT. [`write_service`] writes the UDTS or XUDTS that returns unit data to a sender
+//!   who asked for that. [`write_allowed`] writes the answer to a subsystem test.
 //!
 //! | Message | Answer | Call |
 //! |---|---|---|
 //! | a UDT or a whole XUDT whose data the layer above takes | none | |
 //! | the same, to a subsystem that isn't there | UDTS or XUDTS, cause 4, if it is wanted back | [`write_service`] |
 //! | a segment | XUDTS, cause 10, if it is wanted back | [`write_service`] |
-//! | a subsystem test, to subsystem 1 | subsystem allowed, if the subsystem is the one that is there | [`write_allowed`] |
+//! | a subsystem test, to subsystem 1 | subsystem allowed, if the test is for the node's subsystem | [`write_allowed`] |
 //! | a UDTS | none | |
 //! | octets with a fault | none | |
 //!
 //! The layer above may rely on this: octets are read as a message exactly if they are that message by
-//! `specs/Message.antt`, they are at most one ([`messages_are_one`]), and the fault of all others is the one that
-//! `specs/Fault.antt` has. The octets that are written are those of `specs/Written.antt`; a UDT and a UDTS are read back from
-//! their octets, and the pointers of an XUDTS lead to its parameters ([`written_messages_are_read_back`]). A UDT that [`write_unit_data`] writes has at most 268
-//! octets, so it fits into a message of the message transfer part.
+//! `specs/Message.antt`. They are at most one ([`messages_are_one`]), and all other octets have the fault of
+//! `specs/Fault.antt`. The written octets are the ones of `specs/Written.antt`. A UDT and a UDTS are read back from
+//! their octets, and the pointers of an XUDTS lead to its parameters ([`written_messages_are_read_back`]). A UDT from
+//! [`write_unit_data`] has at most 268 octets, so it fits into a message of the message transfer part.
 #![tactic(auto)]
 
 mod address;

@@ -15,10 +15,9 @@ const SUBSYSTEM_TEST: u8 = 3;
 /// The format of subsystem allowed.
 const SUBSYSTEM_ALLOWED: u8 = 1;
 
-/// The answer to a subsystem test (SST) for this subsystem, which is there: a UDT of class 0 with subsystem allowed
-/// (SSA), to the address from which the test came, and from the one to which it was sent (Q.714, 5.3.4). `None`
-/// exactly if the message isn't a test for this subsystem, or if the answer doesn't fit into a message. `Err`: memory
-/// ran out.
+/// The answer to a subsystem test (SST) for this subsystem, which must be in service: a UDT of class 0 with subsystem
+/// allowed (SSA), from the called to the calling address of the test (Q.714, 5.3.4). `None` exactly if the message
+/// isn't a test for this subsystem, or if the answer doesn't fit into a message. `Err`: out of memory.
 pub fn write_allowed(
     alloc: Global,
     test: &UnitData<'_>,

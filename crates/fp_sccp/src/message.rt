@@ -1,4 +1,4 @@
-//! The messages that are read.
+//! Messages to read.
 
 ghost use Rattle.std.specs.Prelude.{IfErr, IfOk};
 ghost use Rattle.fp_sccp.specs.Fault.{IsFault};
@@ -14,15 +14,15 @@ use crate::{SccpFault, Service, UnitData};
 /// A message of SCCP.
 #[derive(Clone, Copy, Debug)]
 pub enum SccpMessage<'a> {
-    /// A whole message: a UDT, or an XUDT whose optional part says of no further segment.
+    /// A whole message: a UDT, or an XUDT whose optional part names no further segment.
     UnitData(UnitData<'a>),
-    /// A segment of a message: an XUDT of which there are others.
+    /// A segment: an XUDT that is one of several segments of a message.
     Segment(UnitData<'a>),
-    /// A UDTS: data of this node came back.
+    /// A UDTS: data of this node were returned.
     Service(Service<'a>),
 }
 
-/// Reads a message, and says why octets are none.
+/// Reads a message, or gives the first reason why the octets aren't one.
 fn message_in(octets: &[u8]) -> Result<SccpMessage<'_>, SccpFault>
     ensures found { IfOk result (λ message. IsMessage octets.now (message_value message)) }
     ensures sizes { IfOk result (λ message. MessageHasSizes (message_value message)) }
@@ -48,8 +48,8 @@ fn message_in(octets: &[u8]) -> Result<SccpMessage<'_>, SccpFault>
     }
 }
 
-/// Reads a message (Q.713, 4.10, 4.11 and 4.18). The error is the first [`SccpFault`] that applies, and comes exactly
-/// if the octets are no message.
+/// Reads a message (Q.713, 4.10, 4.11 and 4.18). There is an error exactly if the octets are no message: the first
+/// [`SccpFault`] that applies.
 pub fn read(octets: &[u8]) -> Result<SccpMessage<'_>, SccpFault>
     ensures found { IfOk result (λ message. IsMessage octets.now (message_value message)) }
     ensures sizes { IfOk result (λ message. MessageHasSizes (message_value message)) }

@@ -8,15 +8,15 @@ const END: u8 = 0;
 /// The name of the segmentation parameter (Q.713, 3.17).
 const SEGMENTATION: u8 = 0x10;
 
-/// Whether a parameter allows that the message is whole: segmentation does if its segment is the first one and none
-/// follows, and any other parameter does.
+/// Whether the message can be whole with this parameter. A segmentation parameter must say that its segment is the
+/// first and that none follows. Any other parameter allows it.
 fn allows(name: u8, contents: &[u8]) -> bool
     ensures { result ≡ allows_whole (parameter_of name contents.now) }
 {
     name != SEGMENTATION || contents.len() == 4 && contents[0] / 128 == 1 && contents[0] % 16 == 0
 }
 
-/// A parameter, and the octets that follow it.
+/// A parameter, and the octets after it.
 #[derive(Clone, Copy, Debug)]
 struct First<'a> {
     name: u8,
@@ -24,7 +24,7 @@ struct First<'a> {
     after: &'a [u8],
 }
 
-/// The parameter with which octets begin; `None` if they begin with none that is whole.
+/// The first parameter in these octets; `None` if they don't begin with a whole one.
 fn first_parameter(octets: &[u8]) -> Option<First<'_>>
     ensures { MatchOption result
         ((parameter : Parameter) (after : List ℕ) → octets.now ≢ parameter_octets parameter ++ after)
@@ -44,7 +44,7 @@ fn first_parameter(octets: &[u8]) -> Option<First<'_>>
     })
 }
 
-/// Whether the parameters with which these octets begin allow that the message is whole; `None` if they don't end.
+/// Whether the message is whole by these parameters; `None` if they don't end.
 fn says_whole(octets: &[u8]) -> Option<bool>
     ensures found { IfSome result (SaysWhole octets.now) }
     ensures none { IfNone result ((whole : Bool) → ¬ SaysWhole octets.now whole) }

@@ -6,8 +6,8 @@ ghost use Rattle.fp_sccp.specs.Parts.{HasPart, HasParts, IsPartSize, part_of};
 
 use crate::SccpFault;
 
-/// The parameter to which the pointer at this place leads; `None` if it begins within the head, has no octet, or isn't
-/// whole.
+/// The parameter that the pointer at this position leads to. `None` if it begins within the head, has no octet, or
+/// isn't whole.
 pub(crate) fn part(octets: &[u8], head: usize, at: usize) -> Option<&[u8]>
     requires head { head ≤ length octets.now }
     requires at { at < head }
@@ -34,8 +34,8 @@ pub(crate) struct Parts<'a> {
     pub(crate) user_data: &'a [u8],
 }
 
-/// The three parameters of a message with a head of this length, whose pointers begin at this place. The error names
-/// the first one that isn't there.
+/// The three parameters of a message. `head` is the length of its head, `first` the position of its first pointer. The
+/// error names the first parameter that isn't there.
 pub(crate) fn read_parts(octets: &[u8], head: usize, first: usize) -> Result<Parts<'_>, SccpFault>
     requires head { head ≤ length octets.now }
     requires pointers { first + 3 ≤ head }

@@ -25,10 +25,10 @@ impl Model for PointCode {
 }
 
 impl PointCode {
-    /// The least number that 14 bits don't hold.
+    /// One more than the largest point code.
     pub const END: u16 = 16_384;
 
-    /// The point code of this number; `None` exactly from [`PointCode::END`] on.
+    /// The point code with this number; `None` exactly from [`PointCode::END`] on.
     pub fn new(code: u16) -> Option<PointCode>
         ensures { SomeIff result (code < Self.END) code }
     {

@@ -14,7 +14,7 @@ pub enum ProtocolClass {
 }
 
 impl ProtocolClass {
-    /// The class of this code; `None` for a code above 1.
+    /// The class with this code; `None` for a code above 1.
     pub fn from_code(code: u8) -> Option<ProtocolClass>
         ensures value { IfSome result (λ class. class_code class ≡ code) }
         ensures none { IfNone result (2 ≤ code) }

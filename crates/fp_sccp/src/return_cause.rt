@@ -21,7 +21,7 @@ pub enum ReturnCause {
     MtpFailure,
     /// 6: the network is congested.
     NetworkCongestion,
-    /// 7: a cause that has no name of its own.
+    /// 7: a cause without a name of its own.
     Unqualified,
     /// 8: the transport of the message failed.
     ErrorInMessageTransport,
@@ -40,7 +40,7 @@ pub enum ReturnCause {
 }
 
 impl ReturnCause {
-    /// The cause of this code; `None` for a code above 14.
+    /// The cause with this code; `None` for a code above 14.
     pub fn from_code(code: u8) -> Option<ReturnCause>
         ensures value { HasCause code result }
         ensures only { (cause : ReturnCause) → cause_code cause ≡ code → result ≡ Some cause }

@@ -1,4 +1,4 @@
-//! UDTS and XUDTS, by which unit data are returned to their sender (Q.713, 4.11 and 4.19).
+//! UDTS and XUDTS: they return unit data to their sender (Q.713, 4.11 and 4.19).
 
 ghost use Rattle.std.specs.Prelude.{◌≡◌, ◌≤◌, IfErr, IfOk, IfSome, length, slice_index};
 ghost use Rattle.std.specs.Option.{option_map};
@@ -17,18 +17,18 @@ use std::alloc::{AllocError, Global};
 pub(crate) const SERVICE: u8 = 0x0A;
 /// The type of an XUDTS.
 const EXTENDED_SERVICE: u8 = 0x12;
-/// The most octets of a message by which unit data are returned: seven before its parameters, 251 of two addresses, 255
-/// of data, and three lengths.
+/// The most octets of a UDTS or XUDTS: seven before its parameters, 251 for two addresses, 255 for the data, and three
+/// lengths.
 pub const MOST_RETURNED: usize = 516;
 /// The greatest hop counter (Q.713, 3.18).
 const MOST_HOPS: u8 = 15;
 
-/// Unit data that were returned, as a UDTS.
+/// Returned unit data, as a UDTS.
 #[derive(Clone, Copy, Debug)]
 pub struct Service<'a> {
-    /// Why; `None` for a code that Q.713 doesn't name.
+    /// The return cause; `None` for a code that Q.713 doesn't name.
     pub cause: Option<ReturnCause>,
-    /// The called party address, that of the sender of the data.
+    /// The called party address: the sender of the data.
     pub called: &'a [u8],
     /// The calling party address.
     pub calling: &'a [u8],
@@ -36,7 +36,7 @@ pub struct Service<'a> {
     pub user_data: &'a [u8],
 }
 
-/// Reads octets of the type of a UDTS.
+/// Reads a UDTS. The first octet must be its type.
 pub(crate) fn read_service(octets: &[u8]) -> Result<Service<'_>, SccpFault>
     requires { slice_index octets.now 0 ≡ SERVICE }
     ensures found { IfOk result (λ message. IsService octets.now (service_value message)) }
@@ -80,9 +80,9 @@ fn extended(
     Ok(octets)
 }
 
-/// The octets by which unit data are returned for this cause (Q.714, 4.2): a UDTS for a UDT, an XUDTS for an XUDT, with
-/// the addresses exchanged. `None` exactly if their sender doesn't want them back, or if what would be sent doesn't fit
-/// into an XUDTS. A message that is returned has at most [`MOST_RETURNED`] octets. `Err`: memory ran out.
+/// The message that returns unit data for this cause (Q.714, 4.2): a UDTS for a UDT, an XUDTS for an XUDT, with the
+/// addresses exchanged, at most [`MOST_RETURNED`] octets. `None` exactly if the sender didn't ask for the return, or if
+/// an XUDTS is too small for it. `Err`: out of memory.
 pub fn write_service(
     alloc: Global,
     refused: &UnitData<'_>,

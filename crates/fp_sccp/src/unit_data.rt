@@ -1,4 +1,4 @@
-//! UDT, the message that carries data without a connection (Q.713, 4.10).
+//! UDT: the message that carries data without a connection (Q.713, 4.10).
 
 ghost use Rattle.std.specs.Prelude.{◌≡◌, ◌≤◌, IfErr, IfOk, length, slice_index};
 ghost use Rattle.fp_sccp.specs.Fault.{UnitDataFault};
@@ -15,28 +15,27 @@ use std::alloc::{AllocError, Global};
 pub(crate) const UNIT_DATA: u8 = 0x09;
 /// The octets of a UDT before its parameters: the type, the class and three pointers.
 pub(crate) const HEAD: usize = 5;
-/// The place of the first pointer.
+/// The position of the first pointer.
 pub(crate) const FIRST: usize = 2;
-/// The most octets of two addresses to which pointers of one octet lead, also in an XUDTS.
+/// The most octets of two addresses that pointers of one octet can lead past, also in an XUDTS.
 pub(crate) const MOST_ADDRESSES: usize = 251;
-/// The code of "return message on error", in the upper half of the octet of a protocol class (Q.713, 3.6).
+/// The code of "return message on error", in the upper half of the octet with the protocol class (Q.713, 3.6).
 const RETURN_ON_ERROR: u8 = 8;
 
-/// The most octets of a UDT that is written, those that a message of the message transfer part has for SCCP: 272
-/// octets, of which the routing label takes four.
+/// The most octets of a UDT to send: the room for SCCP in a message of the message transfer part, 272 octets less four
+/// of the routing label.
 pub const MOST_OCTETS: usize = 268;
-/// The most octets of data that are written: with two addresses of [`Address::MOST`] octets a UDT has
-/// [`MOST_OCTETS`].
+/// The most octets of data to send: with two addresses of [`Address::MOST`] octets the UDT has [`MOST_OCTETS`].
 pub const MOST_DATA: usize = 224;
 
-/// Unit data: a UDT or an XUDT. None of its parameters is empty, and none has more than 255 octets.
+/// Unit data: a UDT or an XUDT. Each of its parameters has 1 to 255 octets.
 #[derive(Clone, Copy, Debug)]
 pub struct UnitData<'a> {
-    /// In which message it came.
+    /// The kind of message.
     pub kind: Kind,
     /// The protocol class.
     pub class: ProtocolClass,
-    /// Whether its sender wants it back if it can't be delivered.
+    /// Whether the sender asks for a return of undeliverable data.
     pub returns_on_error: bool,
     /// The called party address.
     pub called: &'a [u8],
@@ -46,14 +45,14 @@ pub struct UnitData<'a> {
     pub user_data: &'a [u8],
 }
 
-/// Whether this octet, a protocol class, asks for the return of a message that can't be delivered.
+/// Whether this octet with the protocol class asks for the return of undeliverable data.
 pub(crate) fn asks_for_return(octet: u8) -> bool
     ensures { result ≡ is_returned octet }
 {
     octet / 16 == RETURN_ON_ERROR
 }
 
-/// Reads octets of the type of a UDT.
+/// Reads a UDT. The first octet must be its type.
 pub(crate) fn read_unit_data(octets: &[u8]) -> Result<UnitData<'_>, SccpFault>
     requires { slice_index octets.now 0 ≡ UNIT_DATA }
     ensures found { IfOk result (λ message. IsUnitData octets.now (unit_data_value message)) }
@@ -77,7 +76,7 @@ pub(crate) fn read_unit_data(octets: &[u8]) -> Result<UnitData<'_>, SccpFault>
     })
 }
 
-/// The octets of a message of one of these types, whose second octet is a class or a cause.
+/// The octets of a message of this type. Its second octet is a class or a cause.
 pub(crate) fn message(
     alloc: Global,
     code: u8,
@@ -103,8 +102,8 @@ pub(crate) fn message(
     Ok(octets)
 }
 
-/// The octets of a UDT of this class whose sender doesn't want it back (Q.713, 4.10). Its data are 1 to [`MOST_DATA`]
-/// octets. `Err`: memory ran out.
+/// The octets of a UDT of this class that doesn't ask for a return (Q.713, 4.10). You must pass 1 to [`MOST_DATA`]
+/// octets of data. `Err`: out of memory.
 pub fn write_unit_data(
     alloc: Global,
     class: ProtocolClass,

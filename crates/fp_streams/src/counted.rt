@@ -1,18 +1,18 @@
-//! The failures of a reader or a writer, counted.
+//! Readers and writers with a count of their failures.
 
 ghost use Rattle.std.specs.Prelude.{◌≡◌, ◌≢◌};
 
 use crate::{DeviceFault, LinkRead, LinkWrite};
 use std::io::{ErrorKind, Read, Write};
 
-/// A reader or a writer, and how often it failed. The count wraps after 2^64 - 1.
+/// A reader or a writer, and the number of its failures. The count wraps after 2^64 - 1.
 ///
-/// A call that was interrupted is repeated, and is no failure, up to 2^64 - 1 times.
+/// An interrupted call is repeated and is no failure, up to 2^64 - 1 times.
 #[derive(Drop)]
 pub struct Counted<D> {
     /// The reader or the writer.
     pub device: D,
-    /// How often it failed.
+    /// The number of failures.
     pub failed: u64,
 }
 

@@ -1,4 +1,4 @@
-//! Why a stream went no further.
+//! Why a stream could not be read or written any further.
 
 use thiserror::Error;
 
@@ -15,9 +15,9 @@ pub struct WriteFault;
 /// Why not all lines of a reader were taken. Lines are counted from 1.
 #[derive(Debug, Drop)]
 pub enum LinesFault<F> {
-    /// The line of this number is longer than a line may be.
+    /// The line with this number is too long.
     TooLong(u128),
-    /// The line of this number was refused, for this reason.
+    /// The line with this number was refused, for this reason.
     Refused(u128, F),
     /// The device failed.
     ReadFault,

@@ -1,4 +1,4 @@
-//! The lines of a reader, each taken before the next one is looked for.
+//! The lines of a reader, each taken before the next one is read.
 
 ghost use Rattle.std.specs.Prelude.{◌≡◌, ◌<◌, ◌≤◌, ◌+◌, ◌^◌, ◌++◌, Some, MatchResult, length, slice_get, take};
 ghost use Rattle.fp_streams.specs.Ends.{CountsReads};
@@ -9,15 +9,15 @@ ghost use Rattle.fp_streams.specs.Line.{IsOneLine};
 use crate::{LinesFault, LinkRead, TakesLine};
 use std::alloc::Global;
 
-/// The most octets that one read may give.
+/// The most octets of one read.
 const MOST_READ: usize = 4096;
 
-/// Hands each line of a reader to `taker`, in their order, and each before the next read is made.
+/// Hands each line of a reader to `taker`, in their order, and each before the next read.
 ///
-/// A line feed ends a line and is no part of it; the last line can end at the end of the input instead. A line has at
-/// most `most_octets` octets, and at most `most_reads` reads are made, of up to 4,096 octets each. A fault ends the
-/// call. The lines before it were taken, after [`LinesFault::Memory`] perhaps not all; what was read and not taken is
-/// lost.
+/// A line feed ends a line and is no part of it. The last line may instead end at the end of the input. For example,
+/// the octets 61 0A 62 are the lines `a` and `b`. A line has at most `most_octets` octets, and there are at most
+/// `most_reads` reads, of up to 4,096 octets each. A fault ends the call, and the lines before it were taken; after
+/// [`LinesFault::Memory`] whole lines may be lost. Octets that were read and not taken are lost.
 pub fn follow_lines<R: LinkRead, T: TakesLine>(
     alloc: Global,
     most_octets: usize,
@@ -53,7 +53,7 @@ pub fn follow_lines<R: LinkRead, T: TakesLine>(
     Err(LinesFault::TurnLimit)
 }
 
-/// How far the lines of a reader were taken.
+/// The state of [`follow_lines`]: the limit, the begun line, and the number of lines taken.
 #[derive(Drop)]
 struct Following {
     most_octets: usize,
@@ -62,7 +62,7 @@ struct Following {
 }
 
 impl Following {
-    /// Takes the lines that end in these octets, which were read, and keeps the octets after the last line feed.
+    /// Takes the lines that end in these octets, and keeps the octets after the last line feed.
     fn feed<T: TakesLine>(&mut self, octets: &[u8], taker: &mut T) -> Result<(), Stop<T::Fault>>
         requires begun { IsLine self.old.most_octets self.old.begun.items }
         requires room { self.old.taken + length octets.now < 2 ^ 128 }
@@ -96,7 +96,7 @@ impl Following {
         }
     }
 
-    /// The input ended: takes what was begun as the last line, if there is anything.
+    /// At the end of the input: takes the begun line as the last one, if it has octets.
     fn end<T: TakesLine>(&self, taker: &mut T) -> Result<(), T::Fault>
         ensures { MatchResult result (λ _. TakesLast T.takes taker.old self.now.begun.items taker.new)
             (λ fault. RefusesLast T.refuses taker.old self.now.begun.items fault taker.new) }
@@ -108,9 +108,9 @@ impl Following {
     }
 }
 
-/// Why no further line was taken of what was read.
+/// Why no further line was taken.
 enum Stop<F> {
-    /// The next line is longer than a line may be.
+    /// The next line is too long.
     TooLong,
     /// The next line was refused, for this reason.
     Refused(F),
@@ -119,7 +119,7 @@ enum Stop<F> {
 }
 
 impl<F> Stop<F> {
-    /// The fault of the lines, the next of which has this number.
+    /// The fault of [`follow_lines`], if the next line has this number.
     fn at(self, number: u128) -> LinesFault<F>
         ensures { result ≡ fault_at number self }
     {
@@ -131,7 +131,7 @@ impl<F> Stop<F> {
     }
 }
 
-/// The number of octets before the first line feed, or before the end.
+/// The number of octets before the first line feed; if there is none, of all octets.
 fn line_length(octets: &[u8]) -> usize
     ensures most { result ≤ length octets.now }
     ensures one_line { IsOneLine (take result octets.now) }

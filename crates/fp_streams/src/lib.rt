@@ -1,19 +1,19 @@
-//! Streams of octets: what every part of the program that reads or writes octets is built on.
+//! Streams of octets: every part of the program that reads or writes octets is built on this layer.
 //!
-//! The layer is handed readers and writers, a limit on the length of a line, and a limit on the number of reads. It
-//! asks the system for nothing but the memory of a line.
+//! This layer gets readers and writers, a limit on the length of a line, and a limit on the number of reads. It asks
+//! the system only for the memory of a line.
 //!
-//! * [`LinkRead`] and [`LinkWrite`] are devices whose failures are counted, so that a reported failure can be shown to
+//! * [`LinkRead`] and [`LinkWrite`] are devices that count their failures, so that a reported failure can be shown to
 //!   have happened. [`Counted`] makes them of a [`Read`](std::io::Read) and a [`Write`](std::io::Write).
 //! * [`follow_lines`] hands the lines of a reader to a [`TakesLine`], one after another, however the reads cut them.
-//! * [`write_all`] writes octets, in as many writes as it takes.
+//! * [`write_all`] writes octets, in one or more writes.
 //!
-//! The layer above may rely on this. What [`follow_lines`] read is the lines that were taken, each with its line feed,
-//! and a rest; each line was taken in the state that those before it left, and the rest says why no more was taken, or
-//! is the last line (`specs/Following.antt`). The reads that gave octets are known one by one, and so is whether one
-//! more was made (`specs/Reads.antt`). [`line_feeds_end_lines`] says what the lines of octets are (`specs/Line.antt`).
-//! A fault of a device is reported only if the device failed in that call. A write that fails has written a prefix of
-//! the octets (`specs/Write.antt`).
+//! The layer above may rely on this. The octets that [`follow_lines`] read are the taken lines, each with its line
+//! feed, and a rest. Each line was taken in the state after the lines before it. The rest shows why no more lines were
+//! taken, or is the last line (`specs/Following.antt`). All reads that gave octets are known one by one, and also
+//! whether one more was made (`specs/Reads.antt`). [`line_feeds_end_lines`] says where lines end (`specs/Line.antt`). A
+//! fault of a device is reported only if the device failed in that call. A failed write has written a prefix of the
+//! octets (`specs/Write.antt`).
 #![tactic(auto)]
 
 mod counted;

@@ -1,4 +1,4 @@
-//! Devices whose failures are counted.
+//! Devices that count their failures.
 
 ghost use Rattle.std.specs.Prelude.{ℕ, List, Option, None};
 ghost use Rattle.std.specs.Io.{ReadsAtMost, WritesAtMost};
@@ -8,19 +8,19 @@ ghost use Rattle.fp_streams.specs.Grows.{TellsPiece};
 
 use crate::DeviceFault;
 
-/// A device that octets are read from, and that counts its failures.
+/// A device to read octets from. It counts its failures.
 pub trait LinkRead {
-    // The octets that reads will give from here on, where they are known.
+    // The octets that later reads will give, if they are known.
     ghost remaining: { Self → Option (List ℕ) } = { λ _. None };
 
-    // What each read gave, in their order, where that is known.
+    // The octets of each read so far, in their order, if they are known.
     ghost pieces: { Self → Option (List (List ℕ)) } = { λ _. None };
 
-    // How often the device has failed, as far as the count goes.
+    // The number of failures, up to the limit of the count.
     ghost failures: { Self → ℕ };
 
-    /// Reads octets into the front of `octets`, and gives how many: none only at the end of the input, or where
-    /// `octets` has no room. A fault took none.
+    /// Reads octets into the front of `octets`, and gives their number. It is 0 only at the end of the input, or if
+    /// `octets` has no room. A failed read takes no octets.
     fn read(&mut self, octets: &mut [u8]) -> Result<usize, DeviceFault>
         ensures bound { ReadsAtMost result octets.new }
         ensures octets { ReadConsumes (remaining self.old) (remaining self.new) result octets.new }
@@ -28,22 +28,24 @@ pub trait LinkRead {
         ensures failure { CountsFailure result (failures self.old) (failures self.new) };
 }
 
-/// A device that octets are written to, and that counts its failures. A write of no octets is one.
+/// A device to write octets to. It counts its failures. If a write of some octets takes none of them, that is a
+/// failure.
 pub trait LinkWrite {
-    // The octets that the device holds, where they are known.
+    // The octets that the device holds, if they are known.
     ghost contents: { Self → Option (List ℕ) } = { λ _. None };
 
-    // How often the device has failed, as far as the count goes.
+    // The number of failures, up to the limit of the count.
     ghost failures: { Self → ℕ };
 
-    /// Writes a front of `octets`, and gives its length: at least one octet, unless there is none. A fault wrote none.
+    /// Writes a prefix of `octets`, and gives its length: at least one octet, if there is any. A failed write writes
+    /// none.
     fn write(&mut self, octets: &[u8]) -> Result<usize, DeviceFault>
         ensures bound { WritesAtMost result octets.now }
         ensures some { WritesSome result octets.now }
         ensures octets { WriteAppends (contents self.old) (contents self.new) result octets.now }
         ensures failure { CountsFailure result (failures self.old) (failures self.new) };
 
-    /// Hands on what the device may have kept back.
+    /// Hands on all octets that the device has buffered.
     fn flush(&mut self) -> Result<(), DeviceFault>
         ensures octets { Keeps (contents self.old) (contents self.new) }
         ensures failure { CountsFailure result (failures self.old) (failures self.new) };

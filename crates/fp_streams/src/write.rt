@@ -1,4 +1,4 @@
-//! Writing octets, in as many writes as it takes.
+//! Writing octets, in one or more writes.
 
 ghost use Rattle.std.specs.Io.KnownBytes.{Appends};
 ghost use Rattle.std.specs.Prelude.{OnErr, OnOk};
@@ -7,7 +7,7 @@ ghost use Rattle.fp_streams.specs.Write.{AppendsFront, AppendsPart};
 
 use crate::{LinkWrite, WriteFault};
 
-/// Writes these octets and nothing else. After a fault, in which the device failed, a prefix of them was written.
+/// Writes these octets and nothing else. A fault means that the device failed; a prefix of the octets was written.
 pub fn write_all<W: LinkWrite>(writer: &mut W, octets: &[u8]) -> Result<(), WriteFault>
     ensures written { OnOk result (Appends (W.contents writer.old) (W.contents writer.new) octets.now) }
     ensures front { OnErr result (AppendsFront (W.contents writer.old) (W.contents writer.new) octets.now) }
