@@ -1,4 +1,4 @@
-//! The kind of entry that a component gives.
+//! The kind of entry for a component.
 
 ghost use Rattle.std.specs.Prelude.{◌≡◌, ◌↔◌, IsTrue, IfOk};
 ghost use Rattle.fp_inap.specs.Operation as operations;
@@ -14,7 +14,7 @@ use fp_q773::{Code, Component, Invoke, InvokeProblem, Problem, Reject};
 use fp_records::Table;
 use std::alloc::AllocError;
 
-/// Whether a code is that of this operation.
+/// Whether the code is this operation's.
 fn is_operation(code: Code<'_>, operation: Operation) -> bool
     ensures { IsTrue result ↔ (code_of code.entry ≡ local (operations.code_of operation)) }
 {
@@ -24,7 +24,7 @@ fn is_operation(code: Code<'_>, operation: Operation) -> bool
     }
 }
 
-/// What the table has of the number that an InitialDP asks for.
+/// The table's answer to the called number of an InitialDP.
 fn find(table: &Table, dp: &InitialDp) -> Result<Found, AllocError>
     ensures { IfOk result (λ f. f ≡ found table.now dp.now) }
 {
@@ -44,7 +44,7 @@ fn find(table: &Table, dp: &InitialDp) -> Result<Found, AllocError>
     Ok(Found::Record(record))
 }
 
-/// An Invoke that isn't performed, for this problem.
+/// The entry for an Invoke that can't be performed, with this problem.
 fn unknown(invoke: &Invoke<'_>, problem: InvokeProblem) -> EntryKind
     ensures { result ≡ EntryKind.UnknownInvoke invoke.now.identifier invoke.now.linked problem }
 {
@@ -55,7 +55,7 @@ fn unknown(invoke: &Invoke<'_>, problem: InvokeProblem) -> EntryKind
     }
 }
 
-/// An Invoke of InitialDP.
+/// The entry for an Invoke of InitialDP.
 fn initial_dp_kind(table: &Table, invoke: &Invoke<'_>) -> Result<EntryKind, AllocError>
     ensures { IfOk result (IsInitialDpKind table.now invoke.now.identifier invoke.now.linked (tree_in invoke.now.parameter)) }
 {
@@ -74,7 +74,7 @@ fn initial_dp_kind(table: &Table, invoke: &Invoke<'_>) -> Result<EntryKind, Allo
     })
 }
 
-/// An Invoke of EventReportBCSM.
+/// The entry for an Invoke of EventReportBCSM.
 fn event_kind(invoke: &Invoke<'_>) -> EntryKind
     ensures { IsEventKind invoke.now.identifier invoke.now.linked (tree_in invoke.now.parameter) result }
 {
@@ -92,7 +92,7 @@ fn event_kind(invoke: &Invoke<'_>) -> EntryKind
     }
 }
 
-/// An Invoke.
+/// The entry for an Invoke.
 fn invoke_kind(table: &Table, invoke: &Invoke<'_>) -> Result<EntryKind, AllocError>
     ensures { IfOk result (IsInvokeKind table.now invoke.now.identifier invoke.now.linked (code_of invoke.now.code)
         (tree_in invoke.now.parameter)) }
@@ -106,7 +106,7 @@ fn invoke_kind(table: &Table, invoke: &Invoke<'_>) -> Result<EntryKind, AllocErr
     Ok(unknown(invoke, InvokeProblem::UnrecognizedOperation))
 }
 
-/// The identifier that a Reject names, where it is one of this side.
+/// The identifier in a Reject, if it is one of this side's Invokes.
 fn rejected_identifier(reject: &Reject) -> Option<i8>
     ensures { result ≡ rejected_identifier (problem_of reject.now.problem) reject.now.identifier }
 {
@@ -116,8 +116,7 @@ fn rejected_identifier(reject: &Reject) -> Option<i8>
     }
 }
 
-/// The kind of entry that a component gives. Out of memory, for one more share of a record, is the only
-/// error.
+/// The kind of entry for a component. The only error is out of memory, for one more share of a record.
 pub fn kind_of(table: &Table, component: &Component<'_>) -> Result<EntryKind, AllocError>
     ensures { IfOk result (IsKind table.now (component_of component.now)) }
 {

@@ -6,7 +6,7 @@ use crate::Entry;
 use std::alloc::{AllocError, Global};
 use std::marker::Model;
 
-/// Entries in their order. Contracts see them as their list.
+/// A list of entries. Contracts see it as their list.
 #[derive(Debug, Drop)]
 pub struct Entries {
     items: Vec<Entry>,
@@ -24,7 +24,7 @@ impl Model for Entries {
 impl Entries {
     ghost use Rattle.fp_entry.specs.Entries.{component_count, place_count};
 
-    /// No entry.
+    /// An empty list.
     pub fn new(alloc: Global) -> Entries
         ensures { result ≡ [] }
     {
@@ -40,7 +40,7 @@ impl Entries {
         self.items.as_slice()
     }
 
-    /// Puts an entry after the others. If memory runs out, they are unchanged.
+    /// Appends an entry. If memory runs out, the list is unchanged.
     pub fn push(&mut self, entry: Entry) -> Result<(), AllocError>
         ensures ok { OnOk result (self.new ≡ self.old ++ entry ∷ []) }
         ensures err { OnErr result (self.new ≡ self.old) }
@@ -49,7 +49,7 @@ impl Entries {
         Ok(())
     }
 
-    /// Puts all of the others after these, in their order. If memory runs out, these are unchanged.
+    /// Appends the other entries, in their order. If memory runs out, the list is unchanged.
     pub fn append(&mut self, others: Entries) -> Result<(), AllocError>
         ensures ok { OnOk result (self.new ≡ self.old ++ others) }
         ensures err { OnErr result (self.new ≡ self.old) }
@@ -59,21 +59,21 @@ impl Entries {
         Ok(())
     }
 
-    /// How many there are.
+    /// The number of entries.
     pub fn len(&self) -> usize
         ensures { result ≡ length self.now }
     {
         self.items.len()
     }
 
-    /// Whether there is none.
+    /// Whether there are no entries.
     pub fn is_empty(&self) -> bool
         ensures { IsTrue result ↔ (self.now ≡ []) }
     {
         self.items.is_empty()
     }
 
-    /// How many of them come from components.
+    /// The number of entries that components gave.
     pub fn component_count(&self) -> usize
         ensures { result ≡ component_count self.now }
     {
@@ -83,7 +83,7 @@ impl Entries {
             .count()
     }
 
-    /// How many of them take a place of their dialogue.
+    /// The number of entries that take a place of their dialogue.
     pub fn place_count(&self) -> usize
         ensures { result ≡ place_count self.now }
     {
@@ -93,21 +93,21 @@ impl Entries {
             .count()
     }
 
-    /// The entries of this list. Takes no memory.
+    /// The list of these entries. Takes no memory.
     pub fn from_vec(entries: Vec<Entry>) -> Entries
         ensures { result ≡ entries.items }
     {
         Entries { items: entries }
     }
 
-    /// The entries, as the list that holds them. Takes no memory.
+    /// The entries as a vector. Takes no memory.
     pub fn into_vec(self) -> Vec<Entry>
         ensures { result.items ≡ self }
     {
         self.items
     }
 
-    /// A copy. Out of memory is the only error.
+    /// A copy of the list. The only error is out of memory.
     pub fn try_clone(&self, alloc: Global) -> Result<Entries, AllocError>
         ensures { IfOk result (λ copy. copy ≡ self.now) }
     {

@@ -9,24 +9,24 @@ use fp_inap::Event;
 use fp_q773::{GeneralProblem, InvokeProblem};
 use std::alloc::AllocError;
 
-/// What a dialogue is handed at a time. Two are equal exactly where they are the same, their records by what they say
-/// ([`equal_entries_are_the_same`](crate::equal_entries_are_the_same)). Comparing takes no memory: the moments come
-/// first, then the fields of fixed size, and the records last.
+/// The unit of input of a dialogue. Two entries are equal exactly if they are the same, with records compared by their
+/// rules ([`equal_entries_are_the_same`](crate::equal_entries_are_the_same)). A comparison takes no memory. It looks at
+/// the moments first, then at the fields of fixed size, and at the records last.
 #[derive(Debug, PartialEq, Eq, Drop)]
 pub struct Entry {
-    /// When it came.
+    /// The moment of its message, or of the clock.
     pub moment: Moment,
-    /// What came.
+    /// Its kind.
     pub kind: EntryKind,
 }
 
-/// What comes: a component of a message (Q.773, 4.2.2), what the message itself is, or the clock.
+/// The kind of an entry: a component of a message (Q.773, 4.2.2), the message itself, or the clock.
 ///
 /// | Component | Entry |
 /// |---|---|
 /// | Invoke of InitialDP, its argument read | `InitialDp` |
 /// | Invoke of EventReportBCSM, its argument read | `Event` |
-/// | Invoke of either, its argument absent or another's | `UnknownInvoke`: mistyped parameter |
+/// | Invoke of either, its argument absent or wrong | `UnknownInvoke`: mistyped parameter |
 /// | any other Invoke, also of a global operation | `UnknownInvoke`: unrecognized operation |
 /// | ReturnResultLast, ReturnResultNotLast | `Result` |
 /// | ReturnError | `Error` |
@@ -34,7 +34,7 @@ pub struct Entry {
 /// | a faulty component | `Faulty` |
 #[derive(Debug, PartialEq, Eq, Drop)]
 pub enum EntryKind {
-    /// A Begin, and what it opens.
+    /// A Begin, and the dialogue that it opens.
     Opened(Opening),
     /// An Invoke of InitialDP.
     InitialDp {
@@ -42,9 +42,9 @@ pub enum EntryKind {
         identifier: i8,
         /// The linked identifier, if there is one.
         linked: Option<i8>,
-        /// The calling party number, if it is told.
+        /// The calling party number, if there is one.
         calling: Option<Number>,
-        /// What the table has of the called party number.
+        /// The table's answer to the called party number.
         found: Found,
     },
     /// An Invoke of EventReportBCSM.
@@ -55,16 +55,16 @@ pub enum EntryKind {
         linked: Option<i8>,
         /// The event.
         event: Event,
-        /// Whether it is a notification; else it is a request, and the switch waits.
+        /// Whether it is a notification. Otherwise it is a request, and the switch waits.
         notification: bool,
     },
-    /// Another Invoke, or one of these whose parameter is mistyped.
+    /// Another Invoke, or an Invoke of InitialDP or EventReportBCSM with a mistyped parameter.
     UnknownInvoke {
         /// The invoke identifier.
         identifier: i8,
         /// The linked identifier, if there is one.
         linked: Option<i8>,
-        /// What a Reject of it says: unrecognized operation, or mistyped parameter.
+        /// The problem for a Reject of it: unrecognized operation, or mistyped parameter.
         problem: InvokeProblem,
     },
     /// A ReturnResultLast or a ReturnResultNotLast.
@@ -81,27 +81,27 @@ pub enum EntryKind {
     },
     /// A Reject.
     Reject {
-        /// The invoke identifier, where the problem is a General one or one of an Invoke. A problem of a
-        /// result or an error is about a component of this side, and its identifier is one of the peer's.
+        /// The invoke identifier, if the problem is a General one or an Invoke's. The problem of a result or an error
+        /// is about a component of this side, and its identifier belongs to the peer.
         identifier: Option<i8>,
     },
-    /// A faulty component, the last of its message that is delivered.
+    /// A faulty component, the last delivered one of its message.
     Faulty {
-        /// The invoke identifier, if it can be told.
+        /// The invoke identifier, if it could be read.
         identifier: Option<i8>,
-        /// What a Reject of it says: unrecognized component, or mistyped component.
+        /// The problem for a Reject of it: unrecognized component, or mistyped component.
         problem: GeneralProblem,
     },
     /// The peer ended the dialogue.
     PeerEnd,
     /// The peer aborted the dialogue.
     PeerAbort,
-    /// Time went by. No message brings it.
+    /// The passing of time. No message gives this entry.
     Clock,
 }
 
 impl Entry {
-    /// A copy. Want of memory, for one more share of a record, is the only error.
+    /// A copy of the entry. The only error is out of memory, for one more share of a record.
     pub fn try_clone(&self) -> Result<Entry, AllocError>
         ensures { IfOk result (λ copy. copy ≡ self.now) }
     {
@@ -116,7 +116,7 @@ impl Entry {
 impl EntryKind {
     ghost use Rattle.fp_entry.specs.Entries.{is_clock, is_from_component, takes_a_place};
 
-    /// Whether it comes from a component.
+    /// Whether a component gave it.
     pub fn is_from_component(&self) -> bool
         ensures { result ≡ is_from_component self.now }
     {
@@ -127,15 +127,14 @@ impl EntryKind {
         }
     }
 
-    /// Whether it is the clock's.
+    /// Whether it is a Clock.
     pub fn is_clock(&self) -> bool
         ensures { result ≡ is_clock self.now }
     {
         matches!(self, EntryKind::Clock)
     }
 
-    /// Whether it takes one of the places for entries that a dialogue has: each does but the peer's end, its abort
-    /// and the clock.
+    /// Whether it takes one of the places for entries of its dialogue. PeerEnd, PeerAbort and Clock take none.
     pub fn takes_a_place(&self) -> bool
         ensures { result ≡ takes_a_place self.now }
     {
@@ -145,7 +144,7 @@ impl EntryKind {
         )
     }
 
-    /// A copy. Want of memory, for one more share of a record, is the only error.
+    /// A copy of the kind. The only error is out of memory, for one more share of a record.
     pub fn try_clone(&self) -> Result<EntryKind, AllocError>
         ensures { IfOk result (λ copy. copy ≡ self.now) }
     {

@@ -1,4 +1,4 @@
-//! Why reading a frame gives no message.
+//! Why a frame gives no message.
 
 ghost use Rattle.std.specs.Prelude.{◌≡◌};
 ghost use Rattle.fp_entry.specs.declared.failure.Failure.TheVariants.{Memory};
@@ -6,10 +6,10 @@ ghost use Rattle.fp_entry.specs.declared.failure.Failure.TheVariants.{Memory};
 use crate::fault::Fault;
 use std::alloc::{AllocError, AllocFailed};
 
-/// Why a frame was not read to its end.
+/// Why a frame wasn't read completely.
 #[derive(Clone, Copy)]
 pub enum Failure {
-    /// It is refused.
+    /// The frame is refused.
     Refused(Fault),
     /// An allocation failed.
     Memory,

@@ -1,25 +1,25 @@
-//! What the table has of a called number.
+//! The table's answer to a called number.
 
 ghost use Rattle.std.specs.Prelude.{◌≡◌, IfOk};
 
 use crate::SharedRecord;
 use std::alloc::AllocError;
 
-/// What the table has of the number that an InitialDP asks for: the first of these that fits.
+/// The table's answer to the called number of an InitialDP: the first of these that applies.
 #[derive(Debug, PartialEq, Eq, Drop)]
 pub enum Found {
     /// The service key or the called number is absent.
     Missing,
-    /// The service key isn't that of the table.
+    /// The table has another service key.
     WrongKey,
-    /// The table has no record of the number.
+    /// The table has no record for the number.
     NoRecord,
-    /// The record of the number.
+    /// The record for the number.
     Record(SharedRecord),
 }
 
 impl Found {
-    /// A copy. Out of memory, for one more share of a record, is the only error.
+    /// A copy. The only error is out of memory, for one more share of a record.
     pub fn try_clone(&self) -> Result<Found, AllocError>
         ensures { IfOk result (λ copy. copy ≡ self.now) }
     {

@@ -1,13 +1,13 @@
-//! What a readable message brings.
+//! The entries of a readable message.
 
 use crate::Entries;
 
-/// What a readable message brings to its dialogue.
+/// The entries of a readable message.
 #[derive(Debug, Drop)]
 pub struct Incoming {
-    /// Its entries, in their order.
+    /// The entries, in their order.
     pub entries: Entries,
-    /// How many elements its component portion holds: all of them, also those after a faulty component,
-    /// which are never delivered.
+    /// The number of elements in its component portion. All of them count, also those after a faulty component, which
+    /// are never delivered.
     pub elements: usize,
 }

@@ -1,16 +1,16 @@
-//! What holds of the entries of all messages, of what all frames are prepared to, and of `==` on entries.
+//! Laws of the entries of all messages, of all prepared frames, and of `==` on entries.
 
 ghost use Rattle.fp_digits.specs.Exact.{IsExact};
 ghost use Rattle.fp_entry.specs.Laws.{ComponentsAreCounted, PreparedIsOne};
 ghost use Rattle.fp_entry.specs.Same.{same_entry};
 
-/// The entries of a message that come from components are as many as its components up to the first faulty
-/// one, and so no more than the elements of its component portion.
+/// The number of entries that components gave is the number of components up to the first faulty one. So it is at most
+/// the number of elements in the component portion.
 pub fn components_are_counted()
     ensures { ComponentsAreCounted }
 {}
 
-/// A frame that came at a moment is prepared to one thing over a table and accepted names, unless memory runs out.
+/// For one frame, moment, table and list of accepted names there is one prepared result, unless memory runs out.
 pub fn prepared_is_one()
     ensures { PreparedIsOne }
 {
@@ -24,7 +24,7 @@ pub fn prepared_is_one()
     fp_inap::event_reports_are_one();
 }
 
-/// Two entries are equal by `==` exactly where they are the same.
+/// Two entries are equal by `==` exactly if they are the same.
 #[tactic(auto, using(crate::specs::Same::exact_entry))]
 pub fn equal_entries_are_the_same()
     ensures { IsExact same_entry }

@@ -1,35 +1,35 @@
-//! What a message brings to its dialogue, entry by entry. Messages and components are those of ITU-T Q.773. The
-//! operations are written after INAP CS-1; what each of them gives is this project's profile.
+//! The entries of a message: its parts, as its dialogue handles them one by one. Messages and components follow ITU-T
+//! Q.773. The operations follow INAP CS-1; their entries are this project's profile.
 //!
-//! The layer is handed a frame, the moment at which it came, a table of records and the application context names
-//! that are accepted, and gives the entries of its message; or it says why there are none. It asks the system for
-//! nothing but memory: no clock, no input, no lock. It knows nothing of the dialogues that there are.
+//! This layer gets a frame, the moment of its receipt, a table of records and the accepted application context names.
+//! It gives the entries of the message, or says why there are none. It asks the system only for memory: no clock, no
+//! input, no lock. It knows nothing of open dialogues.
 //!
-//! * [`Prepared`] is what a frame is prepared to: a readable message, with what it brings, [`Incoming`], and so its
-//!   [`Entries`]; or a refusal, with its [`Fault`]; or neither, if memory ran out. Each of them has its
-//!   [`Arrival`]: the frame, its moment, the index of the table by which it was read, and what can be known of
-//!   its octets, their kind and identifiers.
-//! * [`Entry`] is what a dialogue is handed at a time: a moment, and an [`EntryKind`].
-//! * [`Found`] is what the table has of the number that an InitialDP asks for; a [`SharedRecord`] is a share of the
-//!   record itself, and no copy.
+//! * [`Prepared`] is the result for a frame: a readable message with its [`Incoming`], which holds its [`Entries`]; or
+//!   a refusal with its [`Fault`]; or neither, if memory ran out. Each has its [`Arrival`]: the frame, its moment, the
+//!   index of its table, and the kind and identifiers in its octets.
+//! * [`Entry`] is the unit of input of a dialogue: a moment, and an [`EntryKind`].
+//! * [`Found`] is the table's answer to the called number of an InitialDP; a [`SharedRecord`] is a share of the record
+//!   itself, and no copy.
 //!
 //! | Message | Its entries |
 //! |---|---|
-//! | Begin | [`EntryKind::Opened`], then those of its components |
-//! | Continue | those of its components |
-//! | End | those of its components, then [`EntryKind::PeerEnd`] |
+//! | Begin | [`EntryKind::Opened`], then its components |
+//! | Continue | its components |
+//! | End | its components, then [`EntryKind::PeerEnd`] |
 //! | Abort | [`EntryKind::PeerAbort`] |
 //! | Unidirectional | none |
 //!
-//! Components are taken up to the first faulty one, which is the last. Each gives the entry that [`EntryKind`] has
-//! for it, at the moment that was handed in. A [`EntryKind::Clock`] is made by the layers above.
+//! Components are taken up to the first faulty one, which is the last. Each gives the entry in the table of
+//! [`EntryKind`], at the moment of the message. For example, a Begin with one InitialDP gives an `Opened` and an
+//! `InitialDp`. A [`EntryKind::Clock`] is made by the layers above.
 //!
-//! The layer above may rely on this: what is answered is what `specs/Prepared.antt` says of the octets, and want of
-//! memory aside nothing else could be ([`prepared_is_one`]); the entries are those that `specs/Entries.antt` has for
-//! the message, and `specs/Component.antt` for each component. Contracts see [`Entries`] as their list. Copies are
-//! equal to what they are copied from, and two entries are equal by `==` exactly where they are the same, their records
-//! by their rules ([`equal_entries_are_the_same`]). All that takes memory is [`Prepared::read`], copies,
-//! [`Entries::push`] and [`Entries::append`].
+//! The layer above may rely on this, unless memory runs out: the result follows from the octets by
+//! `specs/Prepared.antt`, and there is no other ([`prepared_is_one`]). The entries of a message follow
+//! `specs/Entries.antt`, and the entry of each component `specs/Component.antt`. Contracts see [`Entries`] as their
+//! list. A copy is equal to its original, and two entries are equal by `==` exactly if they are the same, with records
+//! compared by their rules ([`equal_entries_are_the_same`]). Only [`Prepared::read`], copies, [`Entries::push`] and
+//! [`Entries::append`] take memory.
 #![tactic(auto)]
 
 mod arrival;

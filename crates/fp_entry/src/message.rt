@@ -1,4 +1,4 @@
-//! What a message brings.
+//! From a message to its entries.
 
 ghost use Rattle.std.specs.Prelude.{ℕ, List, IfOk, IfErr, map};
 ghost use Rattle.fp_q773.specs.View.{abort_of, begin_of, component_of, continue_of, end_of, message_value};
@@ -18,7 +18,7 @@ use fp_q773::{Abort, Begin, Component, Continue, End, Message};
 use fp_records::Table;
 use std::alloc::{AllocError, Global};
 
-/// Puts the entries of components after others, up to that of the first faulty component.
+/// Appends the entries of components, up to the first faulty component.
 fn deliver(
     table: &Table,
     components: &[Component<'_>],
@@ -38,7 +38,7 @@ fn deliver(
     Ok(entries)
 }
 
-/// What a Begin brings.
+/// The entries of a Begin.
 fn of_begin(
     alloc: Global,
     table: &Table,
@@ -65,7 +65,7 @@ fn of_begin(
     })
 }
 
-/// What a Continue brings.
+/// The entries of a Continue.
 fn of_continue(
     alloc: Global,
     table: &Table,
@@ -82,7 +82,7 @@ fn of_continue(
     })
 }
 
-/// What an End brings.
+/// The entries of an End.
 fn of_end(
     alloc: Global,
     table: &Table,
@@ -103,7 +103,7 @@ fn of_end(
     })
 }
 
-/// What an Abort brings.
+/// The entry of an Abort.
 fn of_abort(alloc: Global, abort: &Abort<'_>, moment: Moment) -> Result<Incoming, AllocError>
     ensures { IfOk result (λ incoming. (contents : Contents) (contexts : List (List ℕ)) → IsIncoming contents contexts moment (abort_of abort.now) incoming) }
 {
@@ -118,7 +118,7 @@ fn of_abort(alloc: Global, abort: &Abort<'_>, moment: Moment) -> Result<Incoming
     })
 }
 
-/// What a message brings.
+/// The entries of a message.
 pub fn incoming_of(
     alloc: Global,
     table: &Table,

@@ -1,4 +1,4 @@
-//! What a frame is prepared to.
+//! From a frame to its entries.
 
 ghost use Rattle.std.specs.Prelude.{◌≡◌, ◌≢◌, ◌<◌, ◌≤◌, ◌*◌, ℕ, List, IfOk, IfErr, length, min};
 ghost use Rattle.fp_ber.specs.declared.fault.BerFault.TheVariants as ber;
@@ -30,34 +30,32 @@ use fp_q773::{MessageFault, message_in};
 use fp_records::Table;
 use std::alloc::Global;
 
-/// What a frame is prepared to, before its link is looked at.
+/// The result for a frame, which doesn't depend on its link.
 #[derive(Debug, Drop)]
 pub enum Prepared {
     /// The octets are a readable message.
     Message {
-        /// The frame, its moment, the index of the table by which it was read, and its identifiers, which are those of
-        /// the message.
+        /// The frame, its moment, the index of its table, and the identifiers of the message.
         arrival: Arrival,
-        /// What the message brings.
+        /// The entries of the message.
         incoming: Incoming,
     },
-    /// The octets are no message that is taken.
+    /// The octets aren't a message that is taken.
     Refused {
-        /// The frame, its moment, the index of the table by which it was read, and what can be known of its octets all
-        /// the same.
+        /// The frame, its moment, the index of its table, and the identifiers in its octets.
         arrival: Arrival,
-        /// Why.
+        /// The fault.
         fault: Fault,
     },
-    /// Memory ran out, and the frame wasn't read to its end.
+    /// Memory ran out, and the frame wasn't read completely.
     Lost {
-        /// The frame, its moment and what can be known of its octets all the same. Its index is that of the table if
-        /// [`Prepared::read`] ran out of memory, and 0 if [`Prepared::lost`] made it; nothing reads it.
+        /// The frame, its moment, and the identifiers in its octets. Nothing reads the index of the table: it is 0 if
+        /// [`Prepared::lost`] made this, and right if [`Prepared::read`] did.
         arrival: Arrival,
     },
 }
 
-/// The failure of octets that weren't read as an element.
+/// The failure of octets that don't give an element.
 fn of_ber_fault(fault: BerFault) -> Failure
     ensures { (contexts : List (List ℕ)) (octets : List ℕ)
         → (fault ≢ ber.Memory → FirstFault octets fault) → IsFailure contexts octets result }
@@ -68,7 +66,7 @@ fn of_ber_fault(fault: BerFault) -> Failure
     }
 }
 
-/// The failure of an element that wasn't read as a message.
+/// The failure of an element that doesn't give a message.
 fn of_message_fault(fault: MessageFault) -> Failure
     ensures { (contexts : List (List ℕ)) (element : Tree)
         → (fault ≢ faults.Memory → IsFault element fault) → IsElementFailure contexts element result }
@@ -80,7 +78,7 @@ fn of_message_fault(fault: MessageFault) -> Failure
     }
 }
 
-/// The message that an element is, and what it brings.
+/// Reads the message in an element, and gives its entries.
 fn read_element(
     alloc: Global,
     table: &Table,
@@ -99,7 +97,7 @@ fn read_element(
     incoming_of(alloc, table, contexts, &message, moment)
 }
 
-/// The message that the element of these nodes is, and what it brings, for all octets that spell that element.
+/// Reads the message in the element of these nodes, and gives its entries.
 fn read_placed(
     alloc: Global,
     table: &Table,
@@ -116,7 +114,7 @@ fn read_placed(
     read_element(alloc, table, contexts, &element, moment)
 }
 
-/// The message that octets are, whose nodes are read into these places, and what it brings.
+/// Reads the message in octets, with these places for its nodes, and gives its entries.
 fn read_into<'a>(
     alloc: Global,
     table: &Table,
@@ -136,7 +134,7 @@ fn read_into<'a>(
     }
 }
 
-/// The message that octets are, whose nodes are more than a few, and what it brings.
+/// Reads a message with more than [`FEW`] nodes, and gives its entries.
 fn read_long(
     alloc: Global,
     table: &Table,
@@ -147,7 +145,7 @@ fn read_long(
     ensures ok { IfOk result (Brings table.now contexts.now octets.now moment) }
     ensures err { IfErr result (IsFailure contexts.now octets.now) }
 {
-    // No element has more than one node for two octets.
+    // An element has at most one node for two octets.
     let mut places = vec![in alloc; Node::BLANK; octets.len() / 2 + 1]?;
     read_into(
         alloc,
@@ -159,10 +157,10 @@ fn read_long(
     )
 }
 
-/// How many nodes a message may have without memory for them.
+/// The most nodes of a message for which no memory is taken.
 const FEW: usize = 32;
 
-/// The message that octets are, and what it brings.
+/// Reads the message in octets, and gives its entries.
 fn read_octets(
     alloc: Global,
     table: &Table,
@@ -181,7 +179,7 @@ fn read_octets(
     }
 }
 
-/// What a frame that came is prepared to.
+/// Prepares a frame.
 fn prepare(alloc: Global, table: &Table, contexts: &[Name], arrival: Arrival) -> Prepared
     ensures { (octets : List ℕ) (moment : ℕ) → IsArrival octets moment arrival
         → arrival.table ≡ table.now.index → IsPrepared table.now contexts.now octets moment result }
@@ -200,15 +198,14 @@ fn prepare(alloc: Global, table: &Table, contexts: &[Name], arrival: Arrival) ->
 }
 
 impl Prepared {
-    /// Reads the message of a frame that came at this moment, over the records of a table and the application
-    /// context names that are accepted. Each answer has the frame, the moment, the index of the table, and the
-    /// identifiers, which depend on the octets alone.
+    /// Reads the message in a frame, received at this moment, with the records of a table and the accepted application
+    /// context names. The result always has the frame, the moment, the index of the table, and the identifiers, which
+    /// depend on the octets alone.
     ///
-    /// What isn't readable, has the tag of no message, or has other contents than its own is
-    /// [`Prepared::Refused`], and so is a Begin whose dialogue portion is no request for a dialogue. The dialogue
-    /// portion of any other message isn't looked at, nor what a Unidirectional holds. No message is refused for
-    /// how many components it has. [`Prepared::Lost`] comes only if memory runs out, also for one more share
-    /// of a record. It has the index of the table, too, which nothing reads.
+    /// [`Prepared::Refused`]: the octets spell no element, or its tag isn't a message's, or the contents don't fit the
+    /// tag, or the dialogue portion of a Begin isn't a request for a dialogue. The dialogue portions of other messages
+    /// aren't read, nor the contents of a Unidirectional. No number of components is too large. [`Prepared::Lost`]:
+    /// memory ran out, perhaps only for one more share of a record. Nothing reads its index of the table.
     pub fn read(
         alloc: Global,
         table: &Table,
@@ -216,10 +213,10 @@ impl Prepared {
         frame: Frame,
         moment: Moment,
     ) -> Prepared
-        // What is answered is what the octets are prepared to.
+        // The result follows from the octets.
         ensures is { IsPrepared table.now contexts.now frame moment result }
 
-        // There is no other answer, unless memory runs out.
+        // There is no other result, unless memory runs out.
         ensures only { (other : Prepared) → IsPrepared table.now contexts.now frame moment other → Answers result other }
     {
         prepared_is_one();
@@ -231,8 +228,8 @@ impl Prepared {
         )
     }
 
-    /// A frame that came at this moment and that isn't read, as if memory had run out. No table is looked at: the index
-    /// is 0, and nothing reads it. Takes no memory.
+    /// A frame that was received at this moment and isn't read, as if memory had run out. Nothing reads its index of a
+    /// table, 0. Takes no memory.
     pub fn lost(frame: Frame, moment: Moment) -> Prepared
         ensures { IsLost frame moment result }
     {
@@ -241,7 +238,7 @@ impl Prepared {
         }
     }
 
-    /// The frame, its moment, the index of its table and its identifiers, whatever it is prepared to.
+    /// The frame, its moment, the index of its table and its identifiers, whatever the result.
     pub fn arrival(&self) -> &Arrival
         ensures { result.now ≡ arrival_of self.now }
     {
@@ -252,7 +249,7 @@ impl Prepared {
         }
     }
 
-    /// The frame, its moment, the index of its table and its identifiers, the rest given up. Takes no memory.
+    /// The same as [`Prepared::arrival`], by value. The rest is dropped. Takes no memory.
     pub fn into_arrival(self) -> Arrival
         ensures { result ≡ arrival_of self }
     {
@@ -263,8 +260,8 @@ impl Prepared {
         }
     }
 
-    /// How many of its entries come from components; 0 where it is no message. A number above the greatest
-    /// `u32`, which no message of a frame has, is given as that. Takes no memory.
+    /// The number of entries that components gave; 0 if the frame isn't a message. It stops at the greatest `u32`,
+    /// which no frame reaches. Takes no memory.
     pub fn components(&self) -> u32
         ensures { result ≡ min (components_of self.now) u32.MAX }
     {

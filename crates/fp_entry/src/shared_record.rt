@@ -1,4 +1,4 @@
-//! The record of a number, shared with the table.
+//! The record for a number, shared with the table.
 
 ghost use Rattle.std.specs.Prelude.{◌≡◌, IfOk};
 ghost use Rattle.std.specs.Arc.{arc_value};
@@ -8,7 +8,7 @@ use std::alloc::AllocError;
 use std::marker::Model;
 use std::sync::Arc;
 
-/// The record of a number, which entries share with their table. Contracts see it as its `Rules`.
+/// The record for a number, which entries share with their table. Contracts see it as its `Rules`.
 #[derive(Debug, Drop)]
 pub struct SharedRecord {
     record: Arc<Record>,
@@ -23,7 +23,7 @@ impl Model for SharedRecord {
     ghost view = { λ shared. arc_value shared.record };
 }
 
-/// Two are equal exactly where their records say the same.
+/// Two shares are equal exactly if their records have the same rules.
 impl PartialEq for SharedRecord {
     ghost use Rattle.fp_records.specs.Same.{same_record, same_record_per};
 
@@ -43,7 +43,7 @@ impl Eq for SharedRecord {
 }
 
 impl SharedRecord {
-    /// One more share of a record of the table. Out of memory is the only error.
+    /// One more share of a record of the table. The only error is out of memory.
     pub fn new(found: &Arc<Record>) -> Result<SharedRecord, AllocError>
         ensures { IfOk result (λ shared. shared ≡ arc_value found.now) }
     {
@@ -59,7 +59,7 @@ impl SharedRecord {
         &self.record
     }
 
-    /// One more share of the same record. Out of memory is the only error.
+    /// One more share of the same record. The only error is out of memory.
     pub fn try_clone(&self) -> Result<SharedRecord, AllocError>
         ensures { IfOk result (λ shared. shared ≡ self.now) }
     {

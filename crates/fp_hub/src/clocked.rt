@@ -1,12 +1,12 @@
-//! What the clock of a link learns in one hold.
+//! The answer to the clock of a link in one hold.
 
 use fp_book::Status;
 
-/// What the book of a link is like after a tick.
+/// The book of a link after a tick.
 #[derive(Clone, Copy, Debug, PartialEq, Eq)]
 pub struct AfterTick {
-    /// Its status.
+    /// The status of the link.
     pub status: Status,
-    /// How many entries its dialogues keep.
+    /// How many entries the dialogues of the link keep.
     pub entry_count: u64,
 }

@@ -7,8 +7,8 @@ use crate::{Hub, PARTS, Seat};
 use fp_book::Totals;
 use std::sync::ledger::Ledger;
 
-/// What a link counted, once all its seats were joined into one: the totals of its book, which are the amounts of that
-/// seat, the sums of all that were joined. `None`: the seat doesn't have all parts, so one was lost or is still out.
+/// The totals of a link, once all its seats were joined into one: the totals of its book, which are the amounts of that
+/// seat, the sums of all joined seats. `None` if the seat doesn't have all parts, so that one was lost or is still out.
 /// Takes no memory.
 pub fn finish<A: Ledger, B: Ledger, C: Ledger>(
     hub: Hub<A, B, C>,

@@ -1,16 +1,16 @@
-//! What comes between taking a turn and serving it.
+//! The gate between taking a turn and serving it.
 
-/// What a thread passes between taking a turn and serving it, with no lock held: tests hold one there.
+/// A gate that a thread passes between taking a turn and serving it, with no lock held: tests hold a thread there.
 pub trait Gate {
-    /// Returns once the turn of this link, of the dialogue of this birth, and of the entries from this position on may
-    /// be served.
+    /// Returns once the turn may be served: the turn of this link, of the dialogue of this birth, and of the entries
+    /// from this position on.
     fn pass(&self, link: u8, birth: u64, position: u64);
 
-    /// Called with no lock held, after a hold in which turns may have been served in their places. Those pass no gate.
+    /// Called with no lock held, after a hold that may have served turns in their places. Those turns pass no gate.
     fn after_hold(&self) {}
 }
 
-/// A gate at which no turn waits.
+/// A gate that lets each turn pass at once.
 #[derive(Debug, Drop)]
 pub struct OpenGate;
 

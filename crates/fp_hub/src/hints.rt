@@ -15,8 +15,8 @@ pub struct Hints {
 }
 
 impl Hints {
-    /// Waits for a hint, and takes it, as [`worker`](crate::worker) does before it takes turns. `false`: the hub is
-    /// closed, and no hint waits.
+    /// Waits for a hint, and takes it, as [`worker`](crate::worker) does before it takes turns. `false` if the hub is
+    /// closed and no hint waits.
     pub fn wait<R: Wait>(&self, rt: &R) -> bool {
         await_hint(rt, &self.receiver, &self.looking)
     }
@@ -27,8 +27,8 @@ impl Hints {
 pub(crate) struct HintChannel {
     // Whether hints are still sent.
     is_open: AtomicBool,
-    // `None`: the channel is closed. The lock is held while hints are counted and one is added, so that no two of them
-    // are added for one place.
+    // `None` if the channel is closed. The lock is held while hints are counted and one is added, so that no two of
+    // them are added for one place.
     sender: Mutex<Option<Sender<()>>>,
     // An end that nobody waits on: the workers' ends are copied from it, and it keeps the channel open for hints while
     // no worker has an end.
@@ -40,7 +40,7 @@ pub(crate) struct HintChannel {
 }
 
 impl HintChannel {
-    /// A channel that is open, and that no worker listens to yet.
+    /// An open channel that no worker listens to yet.
     pub(crate) fn new(alloc: Global, looks: Looks) -> Result<HintChannel, AllocError> {
         let (sender, receiver) = unbounded(alloc)?;
         Ok(HintChannel {
@@ -52,7 +52,7 @@ impl HintChannel {
         })
     }
 
-    /// One more worker's end. From now on one hint more may wait.
+    /// A further worker's end. From now on one more hint may wait.
     pub(crate) fn listen(&self) -> Result<Hints, AllocError> {
         let receiver = self.receiver.clone()?;
         self.workers.fetch_add(1, Ordering::SeqCst);
@@ -62,23 +62,24 @@ impl HintChannel {
         })
     }
 
-    /// How many workers have an end, at least one. As many hints may wait.
+    /// How many workers have an end, at least one. The same number of hints may wait.
     pub(crate) fn worker_count(&self) -> usize {
         self.workers.load(Ordering::SeqCst).max(1)
     }
 
-    /// Whether as many hints wait as may.
+    /// Whether the most hints that may wait do.
     fn is_full(&self) -> bool {
         self.receiver.len() >= self.worker_count()
     }
 
-    /// Sends a hint, unless as many wait as there are workers. `false`: the channel is closed, or memory ran out.
+    /// Sends a hint, unless as many hints wait as there are workers. `false` if the channel is closed, or memory ran
+    /// out.
     ///
-    /// A hint that waits is as good as a new one: it says that there may be a turn, and no more. Each worker that takes
-    /// it takes turns until none is ready, there is no place for a frame, or memory runs out (a sent frame or the next
-    /// tick hints again), and does so after this call, so it finds what was ready before it. If as many hints wait as
-    /// there are workers, each worker has yet to do so, and a further hint would wake nobody else. That needs no lock
-    /// to be seen.
+    /// A waiting hint is as good as a new one: it says that there may be a turn, and no more. Each worker that takes it
+    /// takes turns until none is ready, there is no place for a frame, or memory runs out (a sent frame or the next
+    /// tick hints again). It does so after this call, so it finds every dialogue that was ready before the call. If as
+    /// many hints wait as there are workers, each worker has yet to do so, and a further hint would wake nobody else.
+    /// For example, with two workers and two waiting hints a third hint isn't sent. That needs no lock to be seen.
     pub(crate) fn hint<R: Wait>(&self, rt: &R) -> bool {
         if !self.is_open.load(Ordering::SeqCst) {
             return false;
@@ -92,7 +93,8 @@ impl HintChannel {
         }
     }
 
-    /// No hint is sent from now on. Those that wait are still taken, and then each worker's wait ends.
+    /// Closes the channel: no hint is sent from now on. Waiting hints are still taken, and then each worker's wait
+    /// ends.
     pub(crate) fn close<R: Wait>(&self, rt: &R) {
         self.is_open.store(false, Ordering::SeqCst);
         let _ = self.sender.lock(rt).take();

@@ -7,8 +7,8 @@ use std::sync::ledger::Ledger;
 use std::sync::{Condvar, CondvarTimeouts, MutexGuard, Wait};
 use std::time::Duration;
 
-/// The lock of a link, held. Its release publishes how full the log is, and wakes the resting thread if the lines of
-/// this hold made it [`LINES_OF_A_REST`](crate::LINES_OF_A_REST).
+/// The lock of a link, held. Its release publishes how full the log is, and wakes the resting thread if this hold
+/// brought the log to [`LINES_OF_A_REST`](crate::LINES_OF_A_REST) lines.
 pub(crate) struct Hold<'a, A: Ledger, B: Ledger, C: Ledger> {
     pub(crate) kept: MutexGuard<'a, Kept<A, B, C>>,
     // How many lines the log had when the lock was taken.
@@ -17,7 +17,7 @@ pub(crate) struct Hold<'a, A: Ledger, B: Ledger, C: Ledger> {
 }
 
 impl<'a, A: Ledger, B: Ledger, C: Ledger> Hold<'a, A, B, C> {
-    /// The lock, which was just taken.
+    /// The hold of a lock that was just taken.
     pub(crate) fn new(
         kept: MutexGuard<'a, Kept<A, B, C>>,
         resting: &'a Resting,
@@ -30,7 +30,7 @@ impl<'a, A: Ledger, B: Ledger, C: Ledger> Hold<'a, A, B, C> {
         }
     }
 
-    /// Releases the lock until the next notification, and takes it again. No line was added since it was taken.
+    /// Releases the lock until the next notification, and takes it again. This hold must not have added a log line.
     pub(crate) fn wait<R: Wait>(self, rt: &R, moved: &Condvar) -> Hold<'a, A, B, C> {
         let Hold {
             kept,
@@ -40,8 +40,8 @@ impl<'a, A: Ledger, B: Ledger, C: Ledger> Hold<'a, A, B, C> {
         Hold::new(moved.wait(rt, kept), resting)
     }
 
-    /// Releases the lock until the next notification, for this time at most, and takes it again. No line was added
-    /// since the lock was taken.
+    /// Releases the lock until the next notification, for this time at most, and takes it again. This hold must not
+    /// have added a log line.
     pub(crate) fn wait_timeout<R: Wait + Clock>(
         self,
         rt: &R,

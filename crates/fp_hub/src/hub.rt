@@ -29,13 +29,14 @@ use std::time::Duration;
 
 /// The book of a link under its lock, which all threads of the link share.
 ///
-/// After it was made only [`Hub::post`], [`Hub::post_front`], [`Hub::tick`], [`Hub::take`], [`Hub::give_and_take`],
-/// [`Hub::hints`] and [`Hub::hint`] take memory, and [`Hub::hint_after_no_room`] and [`Hub::await_parcel`] if they hint.
+/// After it was made, only these calls take memory: [`Hub::post`], [`Hub::post_front`], [`Hub::tick`],
+/// [`Hub::tick_and_look`], [`Hub::take`], [`Hub::give_and_take`], [`Hub::serve_front`], [`Hub::help`], [`Hub::worker`],
+/// [`Hub::hints`] and [`Hub::hint`]; and [`Hub::hint_after_no_room`] and [`Hub::await_parcel`] if they hint.
 #[derive(Drop)]
 pub struct Hub<A: Ledger, B: Ledger, C: Ledger> {
     kept: Mutex<Kept<A, B, C>>,
-    // How often the sending thread looks again before it sleeps. What threads write without the lock lies apart from
-    // all else, so that they don't wait for each other's cache line.
+    // How often the sending thread looks again before it sleeps. Each field that threads write without the lock has
+    // cache lines of its own, so that they don't wait for each other's.
     looking: CachePadded<Looking>,
     // There may be a parcel to pick, or the link went down, since this was last looked at.
     is_moved: CachePadded<AtomicBool>,
@@ -44,8 +45,8 @@ pub struct Hub<A: Ledger, B: Ledger, C: Ledger> {
     // A thread may sleep until there is room, or quiet. It is set and cleared under the lock, so that a thread that
     // looked and found neither misses no call after its look.
     awaits_room: CachePadded<AtomicBool>,
-    // The threads that await room or quiet sleep here until a turn comes back, a parcel is handed out or reported, or
-    // the link goes down.
+    // The threads that await room or quiet sleep here until a turn is given or put back, a parcel is handed out or
+    // reported, or the link goes down.
     room_came: CachePadded<Condvar>,
     hints: CachePadded<HintChannel>,
     // A take found no place for a frame, and no worker was hinted for it since.
@@ -53,14 +54,14 @@ pub struct Hub<A: Ledger, B: Ledger, C: Ledger> {
     resting: CachePadded<Resting>,
 }
 
-/// Whether a mark is set, which is cleared then. It is read before it is written, since it is mostly not set.
+/// Whether a mark is set; clears it. It is read before it is written, since it is mostly not set.
 fn take_mark(mark: &AtomicBool) -> bool {
     mark.load(Ordering::SeqCst) && mark.swap(false, Ordering::SeqCst)
 }
 
 impl<A: Ledger, B: Ledger, C: Ledger> Hub<A, B, C> {
     /// The hub of a link, 0 to 7, which is up, and its first seat, which has all parts. Its threads sleep at once if
-    /// they find nothing to do. If memory runs out, the blanks are spent. The run has no tag.
+    /// they find no work. If memory runs out, the blanks are spent. The run has no tag.
     pub fn new(
         alloc: Global,
         link: u8,
@@ -73,8 +74,8 @@ impl<A: Ledger, B: Ledger, C: Ledger> Hub<A, B, C> {
         Self::with_tag(alloc, link, 0, Looks::FEW, blanks)
     }
 
-    /// The hub of a link, as [`Hub::new`], whose threads look again this often before they sleep, in a run with this tag,
-    /// 0 to 4,094, which its book has, as by [`Kept::new`].
+    /// The hub of a link, as [`Hub::new`], in a run with this tag, 0 to 4,094. Its threads look again as often as
+    /// `looks` says before they sleep.
     pub fn with_tag(
         alloc: Global,
         link: u8,
@@ -108,7 +109,7 @@ impl<A: Ledger, B: Ledger, C: Ledger> Hub<A, B, C> {
         Hold::new(self.kept.lock(rt), &*self.resting)
     }
 
-    /// Releases the lock after a call by which there may be room, or quiet, and wakes the threads that await it.
+    /// Releases the lock after a call that may have made room, or quiet, and wakes the threads that await it.
     fn release_and_wake(&self, hold: Hold<'_, A, B, C>) {
         let is_awaited = take_mark(&self.awaits_room);
         drop(hold);
@@ -146,12 +147,12 @@ impl<A: Ledger, B: Ledger, C: Ledger> Hub<A, B, C> {
         answer
     }
 
-    /// Time goes by, as for [`Kept::tick`].
+    /// Advances the clock, as [`Kept::tick`].
     pub fn tick<R: Wait>(&self, rt: &R, moment: Moment) -> Ticked {
         self.hold(rt).kept.tick(moment)
     }
 
-    /// Time goes by, as for [`Hub::tick`]. Returns what the book is like after that, in the same hold.
+    /// Advances the clock, as [`Hub::tick`], and returns the state of the book after that, in the same hold.
     pub fn tick_and_look<R: Wait>(&self, rt: &R, moment: Moment) -> AfterTick {
         let mut hold = self.hold(rt);
         let _ = hold.kept.tick(moment);
@@ -173,8 +174,7 @@ impl<A: Ledger, B: Ledger, C: Ledger> Hub<A, B, C> {
     }
 
     /// Takes back a turn that was served, as [`Kept::give`]: the seat grows by the entries that were served. A stale or
-    /// foreign turn comes back, and nothing changes; the caller has to spend it, as by [`Done::abandon`]. Takes no
-    /// memory.
+    /// foreign turn is returned, and nothing changes; you must spend it, as by [`Done::abandon`]. Takes no memory.
     pub fn give<R: Wait>(&self, rt: &R, seat: &mut Seat<A, B, C>, done: Done) -> Result<Given, Done>
         ensures same { IfErr result (λ back. back ≡ done) }
         ensures grows { seat.new ≡ after_give seat.old done result }
@@ -188,8 +188,8 @@ impl<A: Ledger, B: Ledger, C: Ledger> Hub<A, B, C> {
         given
     }
 
-    /// Takes back a turn that wasn't served, as [`Kept::put_back`]. A stale or foreign turn comes back, and nothing
-    /// changes; the caller has to spend it, as by [`Turn::abandon`]. Takes no memory.
+    /// Takes back a turn that wasn't served, as [`Kept::put_back`]. A stale or foreign turn is returned, and nothing
+    /// changes; you must spend it, as by [`Turn::abandon`]. Takes no memory.
     pub fn put_back<R: Wait>(&self, rt: &R, turn: Turn) -> Result<(), Turn>
         ensures { IfErr result (λ back. back ≡ turn) }
     {
@@ -199,7 +199,7 @@ impl<A: Ledger, B: Ledger, C: Ledger> Hub<A, B, C> {
         back
     }
 
-    /// Hands out what is sent next, as [`Kept::pick`]. Takes no memory.
+    /// Hands out the next parcel, as [`Kept::pick`]. Takes no memory.
     pub fn pick<R: Wait>(&self, rt: &R) -> Picked {
         let mut hold = self.hold(rt);
         let picked = hold.kept.pick();
@@ -209,9 +209,9 @@ impl<A: Ledger, B: Ledger, C: Ledger> Hub<A, B, C> {
         picked
     }
 
-    /// Takes back the parcel that was sent, as [`Kept::sent`]: the seat grows by one sent frame if it is that of a
-    /// dialogue; an Abort of the provider isn't counted. A stale or foreign parcel comes back, and nothing changes; the
-    /// caller has to spend it, as by [`Parcel::abandon`]. Takes no memory.
+    /// Takes back the parcel that was sent, as [`Kept::sent`]: the seat grows by one sent frame if the parcel is a
+    /// dialogue's; an Abort of the provider isn't counted. A stale or foreign parcel is returned, and nothing changes;
+    /// you must spend it, as by [`Parcel::abandon`]. Takes no memory.
     pub fn sent<R: Wait>(
         &self,
         rt: &R,
@@ -231,7 +231,7 @@ impl<A: Ledger, B: Ledger, C: Ledger> Hub<A, B, C> {
     }
 
     /// Takes back the parcel that couldn't be sent, as [`Kept::unsent`]: the link goes down. A stale or foreign parcel
-    /// comes back, and nothing changes; the caller has to spend it, as by [`Parcel::abandon`]. Takes no memory.
+    /// is returned, and nothing changes; you must spend it, as by [`Parcel::abandon`]. Takes no memory.
     pub fn unsent<R: Wait>(&self, rt: &R, parcel: Parcel) -> Result<(), Parcel>
         ensures { IfErr result (λ back. back ≡ parcel) }
     {
@@ -244,7 +244,7 @@ impl<A: Ledger, B: Ledger, C: Ledger> Hub<A, B, C> {
         unsent
     }
 
-    /// The link goes down, as by [`Kept::down`]. Takes no memory.
+    /// Takes the link down, as [`Kept::down`]. Takes no memory.
     pub fn down<R: Wait>(&self, rt: &R) {
         let mut hold = self.hold(rt);
         hold.kept.down();
@@ -278,39 +278,38 @@ impl<A: Ledger, B: Ledger, C: Ledger> Hub<A, B, C> {
     }
 
     /// Rests for this time, or until [`LINES_OF_A_REST`](crate::LINES_OF_A_REST) lines of the log wait, or the link
-    /// goes down. It may return sooner. The line that makes it as many wakes it: if a drain leaves as many, no later
-    /// line does. One thread at a time may rest, the one that runs the clock and drains the log; if none rests, the
-    /// next rest ends at once. Doesn't take the lock of the link.
+    /// goes down. It may return sooner. It is woken only by the line that brings the log to that length: if a drain
+    /// leaves as many lines, no later line wakes it. One thread at a time may rest, the one that runs the clock and
+    /// drains the log; if it isn't resting then, its next rest ends at once. Doesn't take the lock of the link.
     pub fn rest<R: Wait>(&self, rt: &R, time: Duration) {
         self.resting.rest(rt, time);
     }
 
-    /// Whether five eighths of the places for lines of the log are taken, so that a thread that adds lines had better
-    /// drain some if that needs no wait. This and the next three calls don't take the lock of the link: they say how full
-    /// the log was when the lock was last released.
+    /// Whether five eighths of the places for log lines are taken, so that a thread that adds lines should drain some
+    /// if that needs no wait. This and the next three calls don't take the lock of the link: they say how full the log
+    /// was when the lock was last released.
     pub fn is_log_filling(&self) -> bool {
         self.resting.has_reached(LINES_OF_A_FILLING_LOG)
     }
 
-    /// Whether seven eighths of the places for lines of the log are taken, so that a thread that adds lines had better
-    /// drain some, even if it has to wait for that.
+    /// Whether seven eighths of the places for log lines are taken, so that a thread that adds lines should drain some,
+    /// even if it has to wait for that.
     pub fn is_log_nearly_full(&self) -> bool {
         self.resting.has_reached(LINES_OF_A_NEARLY_FULL_LOG)
     }
 
-    /// Whether at least [`LINES_OF_A_TEXT`] lines of the log wait, so that a thread that adds lines had better make their
-    /// text.
+    /// Whether at least [`LINES_OF_A_TEXT`] log lines wait, so that a thread that adds lines should make their text.
     pub fn has_log_lines(&self) -> bool {
         self.resting.has_reached(LINES_OF_A_TEXT)
     }
 
-    /// Whether so many lines of the log wait, 1,024, that they are moved in portions and not exchanged.
+    /// Whether at least 1,024 log lines wait, so many that they are moved in portions and not exchanged.
     pub fn is_log_long(&self) -> bool {
         self.resting.has_reached(LINES_OF_A_LONG_LOG)
     }
 
-    /// A worker's end of the hint channel. The ends of all workers are to be taken before the first hint: at most as
-    /// many hints wait as there are workers then.
+    /// A worker's end of the hint channel. You must take the ends of all workers before the first hint: at most as many
+    /// hints wait as there are workers then.
     pub fn hints(&self) -> Result<Hints, AllocError> {
         self.hints.listen()
     }
@@ -321,7 +320,7 @@ impl<A: Ledger, B: Ledger, C: Ledger> Hub<A, B, C> {
     }
 
     /// Hints to a worker that there may be a turn to take. No hint is added if as many wait already as the link has
-    /// workers. `false`: the hub is closed, or memory ran out. Doesn't take the lock of the link.
+    /// workers. `false` if the hub is closed, or memory ran out. Doesn't take the lock of the link.
     pub fn hint<R: Wait>(&self, rt: &R) -> bool {
         self.hints.hint(rt)
     }
@@ -333,20 +332,19 @@ impl<A: Ledger, B: Ledger, C: Ledger> Hub<A, B, C> {
         }
     }
 
-    /// No worker is hinted from now on: each ends once it has taken the hints that wait. Doesn't take the lock of the
-    /// link.
+    /// Stops the hints: each worker ends once it has taken the waiting hints. Doesn't take the lock of the link.
     pub fn close<R: Wait>(&self, rt: &R) {
         self.hints.close(rt);
     }
 
-    /// If a take found no place for a frame, hints to a worker: what was sent since may have freed one.
+    /// If a take found no place for a frame, hints to a worker: a frame sent since may have freed one.
     pub fn hint_after_no_room<R: Wait>(&self, rt: &R) {
         if take_mark(&self.lacks_room) {
             self.hint(rt);
         }
     }
 
-    /// What the lock kept, once no thread shares the hub any more.
+    /// The guarded state, once no thread shares the hub any more.
     pub(crate) fn into_kept(self) -> Kept<A, B, C> {
         let Hub { kept, .. } = self;
         kept.into_inner()

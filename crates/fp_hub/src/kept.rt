@@ -1,4 +1,4 @@
-//! What the lock of a link keeps.
+//! The state under the lock of a link.
 
 ghost use Rattle.std.specs.Prelude.{◌≡◌, ◌↔◌, ◌<◌, ◌≤◌, ◌-◌, [], false, Some, IfErr, IfOk, IsOk, OnOk, vec_capacity, vec_len};
 ghost use Rattle.std.specs.FinMap.{get};
@@ -25,14 +25,14 @@ use std::marker::Model;
 use std::sync::ledger;
 use std::sync::ledger::{Blank, Ledger};
 
-/// What the lock of a link keeps: its book, and the books of three ledgers, of the components that it accepted, the
-/// entries that it served and the frames that it sent. Its type keeps that the totals of these three are those of the
-/// book. Contracts see it as its book.
+/// The state under the lock of a link: its book, and the books of three ledgers, of the components that it accepted,
+/// the entries that it served and the frames that it sent. Its type guarantees that the totals of these three are the
+/// book's totals. Contracts see the book.
 ///
-/// A call with the name of one of the book's is that call, and says of the book what that says; [`Kept::post_front`],
+/// A call named like one of the book's is that call, with that call's clauses about the book. [`Kept::post_front`],
 /// [`Kept::serve_front`], [`Kept::return_front`], [`Kept::take_share`], [`Kept::give_and_take`] and
-/// [`Kept::sent_and_next`] are several, a bounded number of them. Those that are lent the seat of the calling thread
-/// compare it with the totals, and what the book counts in such a call, the seat's share counts too.
+/// [`Kept::sent_and_next`] are several calls of the book, a bounded number of them. A call that is lent the seat of the
+/// calling thread compares it with the totals, and adds to it exactly the counts that the book adds.
 #[derive(Drop)]
 pub struct Kept<A: Ledger, B: Ledger, C: Ledger> {
     book: Book,
@@ -59,8 +59,8 @@ impl<A: Ledger, B: Ledger, C: Ledger> Model for Kept<A, B, C> {
 }
 
 impl<A: Ledger, B: Ledger, C: Ledger> Kept<A, B, C> {
-    /// The book of a link, 0 to 7, in a run with this tag, 0 to 4,094, and its first seat, which has all parts. If memory
-    /// runs out, the blanks are spent.
+    /// The book of a link, 0 to 7, in a run with this tag, 0 to 4,094, and its first seat, which has all parts. If
+    /// memory runs out, the blanks are spent.
     pub fn new(
         alloc: Global,
         link: u8,
@@ -94,21 +94,21 @@ impl<A: Ledger, B: Ledger, C: Ledger> Kept<A, B, C> {
         Ok((kept, seat))
     }
 
-    /// The book, for the calls that change nothing.
+    /// The book, to be read.
     pub fn book(&self) -> &Book
         ensures value { result.now ≡ self.now }
     {
         &self.book
     }
 
-    /// Says that the book is sound, as each of its calls does. Does nothing else.
+    /// States that the book is sound, as each of its calls does. Does nothing else.
     fn say_sound(&self)
         ensures { Sound self.now }
     {
         let _is_down = self.book.is_down();
     }
 
-    /// Compares the totals with a seat, which changes neither: no amount of it is more than the total.
+    /// Compares the totals with a seat, and changes neither: no amount of the seat is more than the total.
     fn compare(&mut self, seat: &mut Seat<A, B, C>)
         ensures kept { self.new ≡ self.old }
         ensures seat { seat.new ≡ seat.old }
@@ -136,7 +136,7 @@ impl<A: Ledger, B: Ledger, C: Ledger> Kept<A, B, C> {
         receipt.posted
     }
 
-    /// Posts a message, unless it is held back, as [`Book::post_unless_held_back`]: then it comes back, and nothing
+    /// Posts a message, unless it is held back, as [`Book::post_unless_held_back`]: then it is returned, and nothing
     /// changes. The message is judged once.
     pub fn post_unless_held_back(
         &mut self,
@@ -159,7 +159,7 @@ impl<A: Ledger, B: Ledger, C: Ledger> Kept<A, B, C> {
         Ok(receipt.posted)
     }
 
-    /// Time goes by, as for [`Book::tick`].
+    /// Advances the clock, as [`Book::tick`].
     pub fn tick(&mut self, moment: Moment) -> Ticked
         ensures ticks { Ticks self.old moment result.added result.wanting self.new }
         ensures sound { Sound self.new }
@@ -215,7 +215,7 @@ impl<A: Ledger, B: Ledger, C: Ledger> Kept<A, B, C> {
         self.book.put_back(turn)
     }
 
-    /// Hands out what is sent next, as [`Book::pick`].
+    /// Hands out the next parcel, as [`Book::pick`].
     pub fn pick(&mut self) -> Picked
         ensures hands { Hands self.old result self.new }
         ensures sound { Sound self.new }
@@ -249,7 +249,7 @@ impl<A: Ledger, B: Ledger, C: Ledger> Kept<A, B, C> {
         self.book.unsent(parcel)
     }
 
-    /// The link goes down, as by [`Book::down`].
+    /// Takes the link down, as [`Book::down`].
     pub fn down(&mut self)
         ensures down { GoesDown self.old.outbox.out self.old line.Down self.new }
         ensures sound { Sound self.new }
@@ -276,7 +276,7 @@ impl<A: Ledger, B: Ledger, C: Ledger> Kept<A, B, C> {
         self.book.exchange_log(log)
     }
 
-    /// Hands out what is sent next, unless the link is down.
+    /// Hands out the next parcel, unless the link is down.
     pub(crate) fn next(&mut self) -> Next
         ensures finds { Finds self.old result self.new }
         ensures sound { Sound self.new }
@@ -290,7 +290,7 @@ impl<A: Ledger, B: Ledger, C: Ledger> Kept<A, B, C> {
         }
     }
 
-    /// What was counted, once the seat has all parts: the totals are its amounts. Changes neither.
+    /// The totals, once the seat has all parts: they are its amounts. Changes neither.
     pub fn last(&mut self, seat: &mut Seat<A, B, C>) -> Totals
         requires whole { Whole A.parts B.parts C.parts }
         requires all { seat.old.parts ≡ 64 }

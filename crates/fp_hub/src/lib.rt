@@ -1,27 +1,28 @@
 //! The book of a link under its lock, which all threads of the link share.
 //!
-//! The layer is handed what its threads bring (frames that were prepared, moments, turns that were served and word of
-//! what was sent) and asks the system only for memory, locks and sleep, and, if a wait has a bound, how much time went
-//! by. It starts no thread and knows no socket and no time of day: the layer above does.
+//! The layer is handed prepared frames, moments, served turns and reports of sent frames by its threads. It asks the
+//! system only for memory, locks and sleep, and, if a wait has a bound, how much time went by. It starts no thread and
+//! knows no socket and no time of day: the layer above does.
 //!
 //! * [`Hub`] is the book of one link under its lock. Each of its ten calls that change the book, [`Hub::post`],
 //!   [`tick`](Hub::tick), [`take`](Hub::take), [`give`](Hub::give), [`put_back`](Hub::put_back), [`pick`](Hub::pick),
 //!   [`sent`](Hub::sent), [`unsent`](Hub::unsent), [`down`](Hub::down) and [`drain`](Hub::drain), takes the lock once,
-//!   makes the one call of the book of that name, and releases it. So do [`Hub::tick_and_look`], after whose tick the
-//!   clock learns of the book, and [`Hub::exchange_log`], which hands out all lines of the log for an empty one.
+//!   makes the one call of the book of that name, and releases it. So do [`Hub::tick_and_look`], which also returns the
+//!   state of the book, and [`Hub::exchange_log`], which hands out all lines of the log for an empty one.
 //! * Four calls make several of these steps in one hold, a bounded number of them, each by one call of the book:
 //!   [`Hub::post_front`] posts messages of one read, each unless it is held back, [`Hub::give_and_take`] takes back
-//!   turns and hands out the share of a worker, [`Hub::serve_front`] serves turns in their places, each of which is a
-//!   take and a give, and [`Hub::sent_and_next`] takes back a parcel and hands out the next one.
-//! * [`Kept`] is what the lock keeps: the book, and the books of three ledgers (of components accepted, entries served
-//!   and frames sent), whose totals its type keeps equal to the book's.
+//!   turns and hands out the share of a worker, [`Hub::serve_front`] serves turns in their places, each by a take and a
+//!   give, and [`Hub::sent_and_next`] takes back a parcel and hands out the next one.
+//! * [`Kept`] is the state under the lock: the book, and the books of three ledgers (of components accepted, entries
+//!   served and frames sent), whose totals its type keeps equal to the book's.
 //! * `Hold` (`src/hold.rt`) is the lock while it is held. Its release publishes how full the log is.
-//! * [`Seat`] is what a thread has of the three ledgers. The first one has all 64 parts. It is split among the threads
-//!   of the link, each of which counts what it does in its own, and joined again when they have ended.
-//! * [`Hub::worker`] serves turns: it waits for a hint, and then takes, serves and gives until no turn is ready. Before it
-//!   serves a turn it passes a [`Gate`], with no lock held. [`Hub::help`] serves turns in their places by a thread that isn't
-//!   a worker, up to a bound.
-//! * [`finish`] returns what the link counted, if all parts came back.
+//! * [`Seat`] is a thread's share of the three ledgers. The first one has all 64 parts. It is split among the threads
+//!   of the link. Each thread counts its own work in its seat, and the seats are joined again when the threads have
+//!   ended.
+//! * [`Hub::worker`] serves turns: it waits for a hint, and then takes, serves and gives until no turn is ready. Before
+//!   it serves a turn it passes a [`Gate`], with no lock held. [`Hub::help`] serves turns in their places by a thread
+//!   that isn't a worker, up to a bound.
+//! * [`finish`] returns the totals of the link, if all parts were joined.
 //! * [`Tables`] is the records that all links of a run answer from, under a lock of their own: they may be replaced
 //!   while the links run.
 //!
@@ -34,7 +35,7 @@
 //!
 //! | Wait | Who wakes it |
 //! |---|---|
-//! | for a hint | [`Hub::hint`], also by [`Hub::worker`] and [`Hub::help`] where they leave a dialogue ready, and by [`Hub::hint_after_no_room`], which [`Hub::await_parcel`] calls too, after a take found no place; [`Hub::close`] |
+//! | for a hint | [`Hub::hint`], also by [`Hub::worker`] and [`Hub::help`] if they leave a dialogue ready, and by [`Hub::hint_after_no_room`], which [`Hub::await_parcel`] calls too, after a take found no place; [`Hub::close`] |
 //! | for a parcel | a post that queued an Abort of the provider, a give that queued a frame, sent, unsent, down; after [`Hub::post_front`], [`Hub::serve_front`] and [`Hub::give_and_take`] the caller, by [`Hub::tell_sender`] |
 //! | for room, for quiet | each give, also of a turn that requests nothing or whose request is dropped, and put_back, a pick that hands out a parcel, sent, unsent, down; each also among several steps |
 //! | of the clock | the time, [`LINES_OF_A_REST`] lines of the log, unsent, down |
@@ -42,18 +43,18 @@
 //! A thread that awaits room looks again each second, and one that awaits quiet has a bound that the caller gives.
 //!
 //! Each of them waits for the lock too, which is held for a bounded number of calls of the book (64 posts, 32 turns
-//! that come back and 32 that go out, 32 that are served in their places), never while a worker serves a turn, and never
-//! while a frame is sent. For a hint and a parcel each looks again a number of times before it sleeps ([`Looks`]), by
-//! the number of threads and of processors and by what its looks brought before (`src/waiting.rt`).
+//! taken back and 32 handed out, 32 served in their places), never while a worker serves a turn, and never while a
+//! frame is sent. For a hint and a parcel each looks again a number of times before it sleeps ([`Looks`]), by the
+//! number of threads and of processors and by the success of its looks before (`src/waiting.rt`).
 //!
-//! The layer above may rely on this. The book that a lock keeps is sound at each hold (`Sound` of `fp_book`), and each
-//! call of [`Kept`] makes of it what the book's call says; one of several steps makes of it the chain of these
-//! (`specs/Holds.antt`). A seat grows by exactly what the book counts in the call to which the seat is lent: the
-//! message's components if it was accepted, the entries served if the turn doesn't come back, one frame if a dialogue's
-//! parcel doesn't come back. The book's totals are never less than a seat's amounts. A split
-//! moves no amount, a join adds both. So what [`finish`] returns is the totals of the book, and the sums of what the
-//! threads counted. No contract says that a call of a [`Hub`] makes the book's call, since no clause names what another
-//! thread may have changed: the tests in `tests_hub` show it.
+//! The layer above may rely on this. The book under a lock is sound at each hold (`Sound` of `fp_book`), and each call
+//! of [`Kept`] changes it as the book's call does; one of several steps changes it by the chain of these
+//! (`specs/Holds.antt`). A seat grows by exactly the counts that the book adds in a call with this seat: the message's
+//! components if it was accepted, the entries served if the turn isn't returned, one frame if a dialogue's parcel isn't
+//! returned. The book's totals are never less than a seat's amounts. A split moves no amount, a join adds both. So
+//! [`finish`] returns the totals of the book, and these are the sums of the threads' counts. No contract says that a
+//! call of a [`Hub`] makes the book's call, since no clause names the changes of another thread: the tests in
+//! `tests_hub` show it.
 #![tactic(auto)]
 
 mod clocked;

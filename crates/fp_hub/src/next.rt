@@ -1,23 +1,23 @@
-//! What the sender of a link finds.
+//! The next parcel of a link.
 
 use fp_book::Parcel;
 
-/// What the sender of a link finds.
+/// The answer to the sender of a link that asks for the next parcel.
 #[must_use]
 pub enum Next {
-    /// This is to be sent next.
+    /// The parcel to send next.
     Parcel(Parcel),
     /// The link is down.
     Down,
-    /// Nothing waits to be sent, or a parcel is out already.
+    /// No frame waits to be sent, or a parcel is out already.
     Nothing,
 }
 
-/// What a hold brought in which a parcel was reported sent and the next one picked.
+/// The answer to a hold that reports a parcel sent and picks the next one.
 #[must_use]
 pub struct SentAndNext {
-    /// A stale or foreign parcel comes back.
+    /// `Err` with the parcel if it is stale or foreign.
     pub sent: Result<(), Parcel>,
-    /// What is found then.
+    /// The next parcel, found then.
     pub next: Next,
 }

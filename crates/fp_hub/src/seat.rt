@@ -6,13 +6,13 @@ ghost use Rattle.fp_hub.specs.Shares.{Whole, blank, joined};
 use std::marker::Model;
 use std::sync::ledger::{Ledger, Share};
 
-/// How many parts the first seat of a link has. Each thread of the link needs one.
+/// The number of parts of the first seat of a link. Each thread of the link needs one.
 pub const PARTS: u64 = 64;
 
-/// What a thread has of the three ledgers of its link: some of the 64 parts of each, and in each what it counted itself
-/// (components accepted, entries served, frames sent). Contracts see it as [`Shares`](crate).
+/// A thread's share of the three ledgers of its link: some of the 64 parts of each, and in each the thread's own count
+/// (components accepted, entries served, frames sent). Contracts see [`Shares`](crate).
 ///
-/// A seat that is dropped is lost with its parts and its amounts.
+/// A seat that is dropped is lost, with its parts and its amounts.
 #[derive(Drop)]
 pub struct Seat<A: Ledger, B: Ledger, C: Ledger> {
     pub(crate) parts: u64,

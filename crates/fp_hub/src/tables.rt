@@ -1,4 +1,4 @@
-//! The records that all links of a run answer from, and that are replaced while they run.
+//! The records that all links of a run answer from. They may be replaced while the links run.
 
 ghost use Rattle.std.specs.Prelude.{◌≡◌, ◌≤◌, IfOk, IfSome, OnErr};
 
@@ -9,20 +9,20 @@ use std::mem;
 use std::sync::atomic::{AtomicU16, Ordering};
 use std::sync::{Arc, Mutex, Wait};
 
-/// The tables that a lock keeps.
+/// The tables under the lock.
 #[derive(Drop)]
 struct Versions {
-    // The newest, from which messages are answered.
+    // The newest, which messages are answered from.
     newest: Arc<Table>,
-    // Those that were replaced, until no link has one.
+    // The replaced tables, until no link has one.
     replaced: Vec<Arc<Table>>,
 }
 
 /// The records that all links of a run answer from: a table, which may be replaced. The first has index 0, and each
-/// that replaces one has the next index, up to a last one, so that a replay reads each message by the table by which it
-/// was answered.
+/// replacement has the next index, up to a last one, so that a replay reads each message by the table that it was
+/// answered from.
 ///
-/// A link keeps the table from which it answers, and needs the lock only to fetch another one.
+/// A link keeps the table that it answers from, and needs the lock only to fetch another one.
 #[derive(Drop)]
 pub struct Tables {
     versions: Mutex<Versions>,
@@ -33,7 +33,7 @@ pub struct Tables {
     alloc: Global,
 }
 
-/// Seen as the last index that a table may have.
+/// Contracts see the last index that a table may have.
 impl Model for Tables {
     ghost use Rattle.std.specs.Prelude.{ℕ};
 
@@ -75,8 +75,8 @@ impl Tables {
         Arc::try_clone(&self.versions.lock(rt).newest)
     }
 
-    /// Fetches the newest table in the place of an older one. If it is the newest already, the lock isn't taken. If
-    /// memory runs out, nothing changes.
+    /// Fetches the newest table in place of an older one. If it is the newest already, the lock isn't taken. If memory
+    /// runs out, nothing changes.
     pub fn refresh<R: Wait>(&self, rt: &R, table: &mut Arc<Table>) -> Result<(), AllocError>
         ensures { OnErr result (table.new ≡ table.old) }
     {
@@ -88,10 +88,10 @@ impl Tables {
         Ok(())
     }
 
-    /// Replaces the newest table by another one, and gives the index that this has. `None`: the newest has the last
-    /// index, or memory ran out. Then nothing changes.
+    /// Replaces the newest table by another one, and returns the new index. `None` if the newest has the last index, or
+    /// memory ran out. Then nothing changes.
     ///
-    /// The old one is kept until no link has it: then [`Tables::free_replaced`] frees it.
+    /// The old table is kept until no link has it: then [`Tables::free_replaced`] frees it.
     pub fn reload<R: Wait>(&self, rt: &R, table: Table) -> Option<u32>
         ensures { IfSome result (λ index. (1 ≤ index) × (index ≤ self.now)) }
     {
@@ -117,8 +117,8 @@ impl Tables {
         Some(u32::from(index))
     }
 
-    /// Frees the tables that were replaced and that no link has any more. It is for a thread for which no message
-    /// waits: to free many rules takes milliseconds.
+    /// Frees the replaced tables that no link has any more. You should call it on a thread that no message waits for:
+    /// freeing many rules takes milliseconds.
     pub fn free_replaced<R: Wait>(&self, rt: &R) {
         for _ in 0..=Table::LAST_INDEX {
             let mut versions = self.versions.lock(rt);

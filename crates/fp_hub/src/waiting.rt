@@ -1,9 +1,9 @@
 //! How a thread waits: it looks again a bounded number of times, with pauses between that keep its processor, before it
-//! sleeps, since to sleep and to be woken costs more than a call of the book. How often, follows from what its waits
-//! brought before: it looks longer after a look that brought something, and shorter after it had to sleep. If there are
-//! more threads than processors, a thread that looks takes time from one that has something to do: then it sleeps at
-//! once. A lock is waited for as the library does, which looks a hundred times before it sleeps. What the looks bring
-//! is in `docs/performance.md`.
+//! sleeps, since sleeping and being woken costs more than a call of the book. The number of looks follows from its
+//! waits before: it looks longer after a look that found something, and shorter after it had to sleep. If there are
+//! more threads than processors, a thread that looks takes time from one that has work: then it sleeps at once. A lock
+//! is waited for as the library does, which looks a hundred times before it sleeps. `docs/performance.md` has the
+//! effect of the looks.
 
 ghost use Rattle.std.specs.Prelude.{◌≡◌, nat_le, if◌then◌else◌};
 
@@ -14,14 +14,14 @@ use std::sync::Wait;
 use std::sync::atomic::{AtomicU32, Ordering};
 use std::time::{Duration, Instant};
 
-/// How often a worker looks for a hint, or the sending thread for a parcel, before it sleeps, if it has a processor of
-/// its own.
+/// How often at most a worker looks for a hint, or the sending thread for a parcel, before it sleeps, if it has a
+/// processor of its own.
 const MOST_LOOKS: u32 = 400;
 
-/// How often it does so at least, after it had to sleep.
+/// How often it looks at least, after it had to sleep.
 const LEAST_LOOKS: u32 = 25;
 
-/// How many pauses of the processor there are between two looks.
+/// The number of processor pauses between two looks.
 const PAUSES: u32 = 16;
 
 /// How often a thread looks again before it sleeps.
@@ -31,13 +31,13 @@ pub struct Looks {
 }
 
 impl Looks {
-    /// Those of threads that have a processor each.
+    /// For threads that have a processor each: up to 400 looks.
     pub const MANY: Looks = Looks { most: MOST_LOOKS };
 
-    /// Those of threads that share processors.
+    /// For threads that share processors: no looks, they sleep at once.
     pub const FEW: Looks = Looks { most: 0 };
 
-    /// Those of a link, by the number of threads that look on all links of the program, and of processors:
+    /// The looks for a link, by the number of threads that look on all links of the program, and of processors:
     /// [`Looks::MANY`] if there is a processor for each thread, else [`Looks::FEW`].
     pub fn for_threads(threads: usize, processors: usize) -> Looks
         ensures { result ≡ (if nat_le threads processors then Self.MANY else Self.FEW) }
@@ -50,16 +50,16 @@ impl Looks {
     }
 }
 
-/// The looks of one thread, by what they brought before.
+/// The looks of one thread, by the success of its looks before.
 #[derive(Drop)]
 pub(crate) struct Looking {
     most: u32,
-    // How often it looks the next time.
+    // How often the thread looks the next time.
     next: AtomicU32,
 }
 
 impl Looking {
-    /// Those of a thread that didn't look yet.
+    /// The looks of a thread that didn't look yet.
     pub(crate) fn new(looks: Looks) -> Looking {
         Looking {
             most: looks.most,
@@ -67,18 +67,18 @@ impl Looking {
         }
     }
 
-    /// How often it looks now.
+    /// How often the thread looks now.
     pub(crate) fn count(&self) -> u32 {
         self.next.load(Ordering::SeqCst)
     }
 
-    /// A look brought something: the next time it may look twice as often.
+    /// A look found something: the next time the thread may look twice as often.
     pub(crate) fn found(&self) {
         let next = self.count().saturating_mul(2).min(self.most);
         self.next.store(next, Ordering::SeqCst);
     }
 
-    /// No look brought anything, and it sleeps: the next time it looks half as often.
+    /// No look found anything, and the thread sleeps: the next time it looks half as often.
     pub(crate) fn found_nothing(&self) {
         let next = (self.count() / 2).max(LEAST_LOOKS).min(self.most);
         self.next.store(next, Ordering::SeqCst);
@@ -92,7 +92,7 @@ pub(crate) fn pause() {
     }
 }
 
-/// What is left of this time, which began then. `None`: nothing, or the clock gives no time.
+/// The rest of the time `most` since `start`. `None` if nothing is left, or the clock gives no time.
 pub(crate) fn time_left<R: Clock>(
     rt: &R,
     start: Option<Instant>,
@@ -102,7 +102,7 @@ pub(crate) fn time_left<R: Clock>(
     if left.is_zero() { None } else { Some(left) }
 }
 
-/// Waits for a hint. `false`: none waits, and none comes from now on.
+/// Waits for a hint. `false` if no hint waits and the channel is closed.
 pub(crate) fn await_hint<R: Wait>(rt: &R, hints: &Receiver<()>, looking: &Looking) -> bool {
     for _ in 0..looking.count() {
         match hints.try_recv(rt) {

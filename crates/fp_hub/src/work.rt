@@ -1,14 +1,14 @@
-//! The turns that a worker has at hand, and what a hold brings it.
+//! The turns that a worker has at hand, and the answer to a hold for them.
 
 use fp_row::{Done, Turn};
 
-/// A turn that a worker has, until it comes back.
+/// A turn that a worker has, until it gives it back.
 #[must_use]
 #[derive(Debug)]
 pub enum Work {
-    /// It wasn't served yet, or an allocation failed for that.
+    /// A turn that wasn't served yet, or couldn't be for lack of memory.
     Unserved(Turn),
-    /// It was served.
+    /// A turn that was served.
     Served(Done),
 }
 
@@ -35,10 +35,10 @@ pub enum Stopped {
     Memory,
 }
 
-/// What a hold brought in which turns came back and others were taken.
+/// The answer to a hold that took turns back and handed others out.
 #[derive(Clone, Copy, Debug, PartialEq, Eq)]
 pub struct Worked {
-    /// Whether a frame was queued, of which the sending thread doesn't know.
+    /// Whether a frame was queued, so that you must wake the sending thread.
     pub is_queued: bool,
     /// Why no more turns were taken.
     pub stopped: Stopped,

@@ -10,7 +10,7 @@ use std::collections::VecDeque;
 use std::sync::Wait;
 use std::sync::ledger::Ledger;
 
-/// Serves a turn that wasn't served before. If memory runs out it stays unserved.
+/// Serves a turn unless it was served before. If memory runs out it stays unserved.
 fn serve_one<G: Gate>(alloc: Global, gate: &G, work: Work) -> Work
     ensures { turn_in result ≡ turn_in work }
 {
@@ -26,8 +26,7 @@ fn serve_one<G: Gate>(alloc: Global, gate: &G, work: Work) -> Work
     }
 }
 
-/// Serves the turns of a list, which are left in their order. `false`: an allocation failed, so that one stayed
-/// unserved.
+/// Serves the turns of a list, which keep their order. `false` if an allocation failed, so that one stayed unserved.
 fn serve_each<G: Gate>(alloc: Global, gate: &G, work: &mut VecDeque<Work>) -> bool
     ensures { map turn_in work.new.items ≡ map turn_in work.old.items }
 {
@@ -55,11 +54,11 @@ pub fn abandon_all(work: VecDeque<Work>) {
 }
 
 impl<A: Ledger, B: Ledger, C: Ledger> Hub<A, B, C> {
-    /// Serves what is ready in its place, at most this number of turns and 32 in each hold, by the seat of a thread that
-    /// does other things too. None of these turns passes the gate, which is told of each hold ([`Gate::after_hold`]). After a
-    /// hold workers are hinted for all that is ready beyond what the next ones may serve, for all of it if memory ran out,
-    /// and not at all if there was no place for a frame: the sending thread does that then. `true`: a frame was queued, of
-    /// which the sending thread doesn't know.
+    /// Serves ready turns in their places, at most this number, and 32 in each hold, on a thread that also has other
+    /// duties; they count in its seat. None of these turns passes the gate, which is called after each hold
+    /// ([`Gate::after_hold`]). After a hold, workers are hinted for the ready dialogues beyond the number that the next
+    /// holds may serve; for all of them if memory ran out; for none if there was no place for a frame: the sending
+    /// thread hints then. `true` if a frame was queued: then you must wake the sending thread.
     pub fn help<R: Wait, G: Gate>(
         &self,
         rt: &R,
@@ -91,9 +90,9 @@ impl<A: Ledger, B: Ledger, C: Ledger> Hub<A, B, C> {
         unreachable!()
     }
 
-    /// Takes and serves turns until none is ready, or places or memory run out: in each hold gives back those that it
-    /// served and takes its share of those that are ready. If it leaves some it hints before a turn passes the gate. No
-    /// turn is left in the list.
+    /// Takes and serves turns until none is ready, or places or memory run out: in each hold it gives back the turns
+    /// that it served and takes its share of the ready ones. If it leaves some it hints before a turn passes the gate.
+    /// No turn is left in the list.
     fn serve_ready<R: Wait, G: Gate>(
         &self,
         rt: &R,

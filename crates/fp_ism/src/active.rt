@@ -37,7 +37,7 @@ impl Model for ActiveInvocations {
     } };
 }
 
-/// Two are equal exactly if they hold the same invocations.
+/// Two lists are equal exactly if they hold the same invocations.
 impl PartialEq for ActiveInvocations {
     ghost use Rattle.fp_ism.specs.Same.{same_list, same_list_per};
 
@@ -56,7 +56,7 @@ impl Eq for ActiveInvocations {
     ghost laws = { same_list_equiv };
 }
 
-/// The filler of a place without an invocation.
+/// The filler of an unused place.
 const VACANT: Invocation = Invocation {
     identifier: 0,
     class: OperationClass::Class1,
@@ -67,7 +67,7 @@ impl ActiveInvocations {
     /// The largest number of active invocations.
     pub(crate) const MOST: usize = 8;
 
-    /// No invocation.
+    /// An empty list.
     pub(crate) fn new() -> ActiveInvocations
         ensures { result ≡ [] }
     {
@@ -93,7 +93,7 @@ impl ActiveInvocations {
         &self.places[..self.used]
     }
 
-    /// Adds one after the others. There must be room for it.
+    /// Appends an invocation. You must leave room for it.
     pub(crate) fn push(&mut self, invocation: Invocation)
         requires { length self.old < Self.MOST }
         ensures { self.new ≡ self.old ++ invocation ∷ [] }
@@ -102,7 +102,7 @@ impl ActiveInvocations {
         self.used += 1;
     }
 
-    /// Whether one has this identifier.
+    /// Whether an invocation with this identifier is active.
     pub(crate) fn contains(&self, identifier: i8) -> bool
         ensures { result ≡ is_active identifier self.now }
     {
@@ -120,7 +120,7 @@ impl ActiveInvocations {
             .any(|invocation| invocation.is_test())
     }
 
-    /// Whether a test is due at this moment or before.
+    /// Whether a test is due at this moment or earlier.
     pub(crate) fn is_test_due(&self, moment: Moment) -> bool
         ensures { result ≡ is_test_due moment self.now }
     {
@@ -130,7 +130,7 @@ impl ActiveInvocations {
             .any(|invocation| invocation.is_test() && invocation.due <= now)
     }
 
-    /// The class of the one with this identifier.
+    /// The class of the invocation with this identifier.
     pub(crate) fn class_of(&self, identifier: i8) -> Option<OperationClass>
         ensures { result ≡ class_of identifier self.now }
     {
@@ -140,7 +140,7 @@ impl ActiveInvocations {
             .map(|invocation| invocation.class)
     }
 
-    /// Those with another identifier.
+    /// The list without the invocation with this identifier.
     pub(crate) fn without(&self, identifier: i8) -> ActiveInvocations
         ensures { result ≡ without identifier self.now }
     {
@@ -154,7 +154,7 @@ impl ActiveInvocations {
         left
     }
 
-    /// Those that are due after this moment.
+    /// The invocations that are due after this moment.
     pub(crate) fn due_after(&self, moment: Moment) -> ActiveInvocations
         ensures { result ≡ those_left moment self.now }
     {
@@ -168,7 +168,8 @@ impl ActiveInvocations {
         left
     }
 
-    /// The earliest moment at which one is due, in milliseconds since 1970-01-01T00:00:00Z.
+    /// The earliest moment when an invocation is due, in milliseconds since
+    /// 1970-01-01T00:00:00Z.
     pub(crate) fn earliest(&self) -> Option<u64>
         ensures { MatchOption result (length self.now ≡ 0)
             (λ due. Contains (dues self.now) due × All (λ other. due ≤ other) (dues self.now)) }

@@ -14,12 +14,12 @@ pub(crate) struct Invocation {
     pub(crate) identifier: i8,
     /// The class of the operation.
     pub(crate) class: OperationClass,
-    /// The moment at which it is due, in milliseconds since 1970-01-01T00:00:00Z.
+    /// The moment when it is due, in milliseconds since 1970-01-01T00:00:00Z.
     pub(crate) due: u64,
 }
 
 impl Invocation {
-    /// Whether it tests the dialogue: its operation is of class 3, as ActivityTest is.
+    /// Whether it tests the dialogue: its operation is of class 3, like ActivityTest.
     pub(crate) fn is_test(&self) -> bool
         ensures { result ≡ is_test self.now }
     {
@@ -30,7 +30,7 @@ impl Invocation {
     }
 }
 
-/// The number of identifiers, which are 1 to this.
+/// The number of identifiers: 1 to 127.
 pub(crate) const IDENTIFIERS: u8 = 127;
 
 /// The time limit, in milliseconds, of an invocation of an operation of this class.
@@ -44,7 +44,8 @@ pub(crate) fn time_limit_of(class: OperationClass) -> u64
     }
 }
 
-/// The identifier this number of steps after the successor of this one, 127 being followed by 1.
+/// The identifier `step` places after the successor of this one; 127 is followed by 1. For example,
+/// 126 and step 1 give 1.
 pub(crate) fn identifier_after(last: u8, step: u8) -> i8
     requires last { last ≤ IDENTIFIERS }
     requires step { step < IDENTIFIERS }

@@ -16,8 +16,8 @@ use fp_q773::OperationClass;
 use std::marker::Model;
 use thiserror::Error;
 
-/// The invocations of a dialogue that are active, at most eight, in the order of their start, and the identifier
-/// that was started last.
+/// The active invocations of a dialogue, at most eight, in the order of their start, and the identifier of the last one
+/// started.
 #[derive(Clone, Copy, Debug)]
 pub struct Invocations {
     last_started: u8,
@@ -36,7 +36,7 @@ impl Model for Invocations {
     ghost inverse = { λ value. record { last_started = value.last_started; active = value.active } };
 }
 
-/// Two are equal exactly if the same invocations are active and the same identifier was started last
+/// Two values are equal exactly if the same invocations are active and the same identifier was started last
 /// (`exact_invocations` of `specs/Same.antt`).
 impl PartialEq for Invocations {
     ghost use Rattle.fp_ism.specs.Same.{same_invocations, same_invocations_per};
@@ -56,7 +56,7 @@ impl Eq for Invocations {
     ghost laws = { same_invocations_equiv };
 }
 
-/// Eight invocations are active, which is the most.
+/// Eight invocations, the most, are already active.
 #[derive(Clone, Copy, Debug, PartialEq, Eq, Error)]
 #[error("eight invocations are active")]
 pub struct Full;
@@ -77,10 +77,11 @@ impl Invocations {
         }
     }
 
-    /// Starts an invocation of an operation of this class at this moment, and returns its identifier, that of
+    /// Starts an invocation of an operation of this class at this moment, and returns its identifier, which is
     /// [`Invocations::next`].
     ///
-    /// It is due 10,000 ms later, or 5,000 ms in class 4. With eight active the error is [`Full`], and nothing changes.
+    /// The invocation is due 10,000 ms later, or 5,000 ms in class 4. If eight are active, the error is [`Full`], and
+    /// nothing changes.
     pub fn start(&mut self, class: OperationClass, moment: Moment) -> Result<i8, Full>
         ensures room { IsOk result ↔ (length self.old.active < Self.MOST) }
         ensures identifier { IfOk result
@@ -135,7 +136,7 @@ impl Invocations {
         outcome
     }
 
-    /// Whether an invocation with this identifier is active; none is with one that isn't 1 to 127.
+    /// Whether an invocation with this identifier is active. An identifier outside of 1 to 127 never is.
     pub fn active(&self, identifier: i8) -> bool
         ensures value { result ≡ is_active identifier self.now.active }
         ensures range { IsTrue result → IsIdentifier identifier }
@@ -150,22 +151,22 @@ impl Invocations {
         self.active.class_of(identifier)
     }
 
-    /// Whether a test of the dialogue is active: an invocation of an operation of class 3, as ActivityTest is.
+    /// Whether a test of the dialogue is active: an invocation of an operation of class 3, like ActivityTest.
     pub fn testing(&self) -> bool
         ensures { result ≡ is_testing self.now.active }
     {
         self.active.is_testing()
     }
 
-    /// Whether a test of the dialogue is due at this moment or before, and so was not answered in time.
+    /// Whether a test of the dialogue is due at this moment or earlier, and so wasn't answered in time.
     pub fn is_test_due(&self, moment: Moment) -> bool
         ensures { result ≡ is_test_due moment self.now.active }
     {
         self.active.is_test_due(moment)
     }
 
-    /// The identifier of the next invocation, also with eight active: the first one after the last one started that
-    /// isn't active, 127 being followed by 1.
+    /// The identifier of the next invocation, also if eight are active: the first identifier after the last started one
+    /// that isn't active; 127 is followed by 1. For example, after 127 with 1 still active it is 2.
     pub fn next(&self) -> i8
         ensures value { result ≡ pos (next_identifier self.now.last_started self.now.active) }
         ensures range { IsIdentifier result }
@@ -181,7 +182,7 @@ impl Invocations {
         unreachable!()
     }
 
-    /// Ends the invocations that are due at this moment or before, and returns their number.
+    /// Ends the invocations that are due at this moment or earlier, and returns their number.
     pub fn due(&mut self, moment: Moment) -> usize
         ensures count { result ≡ length (those_due moment self.old.active) }
         ensures left { self.new ≡ after_moment moment self.old }
@@ -191,7 +192,8 @@ impl Invocations {
         before - self.active.len()
     }
 
-    /// The earliest moment at which one is due, in milliseconds since 1970-01-01T00:00:00Z; `None` if none is active.
+    /// The earliest moment when an invocation is due, in milliseconds since 1970-01-01T00:00:00Z; `None` if none is
+    /// active.
     pub fn next_due(&self) -> Option<u64>
         ensures value { result ≡ least_of (dues self.now.active) }
         ensures none { IsNone result ↔ (self.now.active ≡ []) }

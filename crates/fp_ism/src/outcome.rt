@@ -1,11 +1,11 @@
-//! The outcome of a component for the invocation that it names.
+//! The effect of a component on the invocation that it names.
 
 ghost use Rattle.std.specs.Prelude.{◌≡◌};
 ghost use Rattle.fp_ism.specs.Outcome.{outcome_of_result, outcome_of_error, outcome_of_reject};
 
 use fp_q773::{OperationClass, Problem, ReturnErrorProblem, ReturnResultProblem};
 
-/// The outcome of a component for the invocation that it names (ITU-T Q.774, 3.2).
+/// The effect of a component on the invocation that it names (ITU-T Q.774, 3.2).
 #[derive(Clone, Copy, Debug, PartialEq, Eq)]
 pub enum Outcome {
     /// The operation succeeded.
@@ -14,9 +14,9 @@ pub enum Outcome {
     Failure,
     /// More results follow, and the invocation stays active.
     Stays,
-    /// Nothing follows.
+    /// The component has no effect.
     Ignored,
-    /// The component is to be rejected with this problem.
+    /// The component must be rejected with this problem.
     Problem(Problem),
 }
 
@@ -36,7 +36,7 @@ const UNEXPECTED_ERROR: Outcome = Outcome::Problem(Problem::ReturnError(
     ReturnErrorProblem::ReturnErrorUnexpected,
 ));
 
-/// The outcome of a ReturnResult for an invocation of this class, or for none.
+/// The outcome of a ReturnResult for an invocation of this class, or for no invocation.
 pub(crate) fn of_result(class: Option<OperationClass>, last: bool) -> Outcome
     ensures { result ≡ outcome_of_result last class }
 {
@@ -53,7 +53,7 @@ pub(crate) fn of_result(class: Option<OperationClass>, last: bool) -> Outcome
     }
 }
 
-/// The outcome of a ReturnError for an invocation of this class, or for none.
+/// The outcome of a ReturnError for an invocation of this class, or for no invocation.
 pub(crate) fn of_error(class: Option<OperationClass>) -> Outcome
     ensures { result ≡ outcome_of_error class }
 {
@@ -64,7 +64,7 @@ pub(crate) fn of_error(class: Option<OperationClass>) -> Outcome
     }
 }
 
-/// The outcome of a Reject for an invocation of this class, or for none.
+/// The outcome of a Reject for an invocation of this class, or for no invocation.
 pub(crate) fn of_reject(class: Option<OperationClass>) -> Outcome
     ensures { result ≡ outcome_of_reject class }
 {

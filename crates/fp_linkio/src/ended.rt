@@ -1,11 +1,11 @@
-//! Why a loop went no further.
+//! Why a loop ended.
 
-/// Why a loop went no further.
+/// Why a loop ended.
 #[derive(Clone, Copy, Debug, PartialEq, Eq)]
 pub enum Ended {
-    /// The input ended between two frames, or the outlet has no more.
+    /// The input ended between two frames, or the outlet has no more parcels.
     EndOfInput,
-    /// The next length is that of no frame, or the input ended inside a frame.
+    /// The length of the next frame is out of range, or the input ended inside a frame.
     BadFrame,
     /// The reader failed in this call.
     ReadFault,

@@ -1,4 +1,4 @@
-//! Octets that are gathered before they are handed on to a device.
+//! A buffer of octets in front of a device.
 
 ghost use Rattle.std.specs.Prelude.{◌≡◌, ◌↔◌, ◌≤◌, [], IfOk, IsTrue, OnOk, drop, length, vec_capacity};
 ghost use Rattle.std.specs.Io.{WritesAtMost};
@@ -9,10 +9,10 @@ use fp_streams::{DeviceFault, LinkWrite};
 use std::alloc::{AllocError, Global};
 use std::marker::Model;
 
-/// How many octets are gathered at most.
+/// The most octets in the buffer.
 const MOST_GATHERED: usize = 32_768;
 
-/// Takes this number of octets off the front of a list.
+/// Removes this number of octets from the front of a list.
 fn drop_front(octets: &mut Vec<u8>, count: usize)
     requires { count ≤ length octets.old.items }
     ensures items { octets.new.items ≡ drop count octets.old.items }
@@ -27,12 +27,12 @@ fn drop_front(octets: &mut Vec<u8>, count: usize)
     octets.truncate(left);
 }
 
-/// Octets that were taken to be written and that a device hasn't got yet, at most 32,768, in room for as many.
-/// Contracts see them as their list.
+/// Octets that were accepted and that the device doesn't have yet, at most 32,768. The room for them is allocated once.
+/// Contracts see the list of the octets.
 ///
-/// The device is lent to each call, so that several threads can share what is gathered under a lock, each with a handle
-/// of the device of its own. What the device has and what is gathered after it is what was written: a call that takes
-/// octets adds them there, and one that hands on changes nothing of it.
+/// Each call borrows the device. So several threads can share this buffer under a lock, each with its own handle of the
+/// device. The output is the octets that the device has, followed by the octets in the buffer: `write` adds to it, and
+/// `hand_on` doesn't change it.
 #[derive(Drop)]
 pub struct Gathered {
     octets: Vec<u8>,
@@ -49,7 +49,7 @@ impl Model for Gathered {
 }
 
 impl Gathered {
-    /// Nothing is gathered.
+    /// An empty buffer. The room is allocated here.
     pub fn new(alloc: Global) -> Result<Gathered, AllocError>
         ensures { IfOk result (λ gathered. gathered ≡ []) }
     {
@@ -58,15 +58,15 @@ impl Gathered {
         })
     }
 
-    /// Whether nothing is gathered.
+    /// Whether the buffer is empty.
     pub fn is_empty(&self) -> bool
         ensures { IsTrue result ↔ (self.now ≡ []) }
     {
         self.octets.is_empty()
     }
 
-    /// Takes octets, as [`LinkWrite::write`]: all of them, unless they are more than may be gathered. If there is no
-    /// room left for them, what is gathered is handed on to the device first; if that fails, none are taken. Takes no
+    /// Accepts octets, as [`LinkWrite::write`] does: all of them, unless there are more than 32,768. If there isn't
+    /// enough room left, the buffer is first handed on to the device. If that fails, no octets are accepted. Takes no
     /// memory.
     pub fn write<W: LinkWrite>(
         &mut self,
@@ -91,8 +91,8 @@ impl Gathered {
         Ok(octets.len())
     }
 
-    /// Hands all that is gathered on to the device. If that fails, the octets that the device didn't take stay
-    /// gathered. Takes no memory.
+    /// Hands the whole buffer on to the device. If that fails, the octets that the device didn't take stay in the
+    /// buffer. Takes no memory.
     pub fn hand_on<W: LinkWrite>(&mut self, device: &mut W) -> Result<(), DeviceFault>
         ensures all { OnOk result (self.new ≡ []) }
         ensures octets { Keeps (append_known (W.contents device.old) self.old)
@@ -107,13 +107,13 @@ impl Gathered {
     }
 }
 
-/// A device before which octets are gathered. What it was given is its contents, whether the device has it or not. It
-/// is handed on by [`LinkWrite::flush`], and when there is no room for more.
+/// A device with a buffer in front of it. Its contents are all octets that it accepted, whether the device has them or
+/// not. The buffer is handed on by [`LinkWrite::flush`], and when it is full.
 #[derive(Drop)]
 pub struct Gathering<W: LinkWrite> {
     /// The device.
     pub device: W,
-    /// What it hasn't got yet.
+    /// The octets that the device doesn't have yet.
     pub gathered: Gathered,
 }
 

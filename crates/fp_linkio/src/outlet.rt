@@ -1,4 +1,4 @@
-//! What has the parcels of a link.
+//! The source of a link's parcels.
 
 ghost use Rattle.std.specs.Prelude.{◌≡◌, List, [], ◌∷◌, Option, None, IfErr};
 ghost use Rattle.fp_streams.specs.Grows.{Grows};
@@ -6,21 +6,22 @@ ghost use Rattle.fp_linkio.specs.Calls.{OutletCall, picks, reports_sent, reports
 
 use fp_book::Parcel;
 
-/// What has the parcels of a link, and learns what became of each.
+/// Has the parcels of a link, and gets a report on each.
 pub trait Outlet {
-    // The calls that were made of it, in their order, if it reports them.
+    // The calls so far, in their order, if the outlet reports them.
     ghost calls: { Self → Option (List OutletCall) } = { λ _. None };
 
-    /// The parcel that is sent next, or `None` where there is no more.
+    /// The next parcel to send, or `None` if there is no more.
     fn pick(&mut self) -> Option<Parcel>
         ensures { Grows (calls self.old) (calls self.new) (picks result ∷ []) };
 
-    /// The parcel was sent. One that this outlet didn't hand out comes back, and was reported all the same.
+    /// Reports that the parcel was sent. A parcel of another outlet is returned; the report counts all the same.
     fn sent(&mut self, parcel: Parcel) -> Result<(), Parcel>
         ensures call { Grows (calls self.old) (calls self.new) (reports_sent parcel ∷ []) }
         ensures back { IfErr result (λ back. back ≡ parcel) };
 
-    /// The parcel couldn't be sent. One that this outlet didn't hand out comes back, and was reported all the same.
+    /// Reports that the parcel couldn't be sent. A parcel of another outlet is returned; the report counts all the
+    /// same.
     fn unsent(&mut self, parcel: Parcel) -> Result<(), Parcel>
         ensures call { Grows (calls self.old) (calls self.new) (reports_unsent parcel ∷ []) }
         ensures back { IfErr result (λ back. back ≡ parcel) };

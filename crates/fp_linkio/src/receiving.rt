@@ -6,17 +6,17 @@ use crate::{Ended, Inbox, LinkRead};
 use fp_frames::{FrameFault, FrameReader};
 use std::alloc::Global;
 
-/// How many octets one read may give.
+/// The most octets of one read.
 const MOST_READ: usize = 65_536;
 
-/// Reads a link, in reads of up to 65,536 octets, and hands each frame to the inbox, in their order: all that a read
-/// completed before the next read is made (shown by cases), and after those of a read says so
-/// ([`Inbox::end_of_read`]). It makes at most `turns` reads.
+/// Reads a link, in reads of up to 65,536 octets, and hands the frames to the inbox, in their order. All frames that a
+/// read completed are handed on before the next read (cases show this), followed by [`Inbox::end_of_read`]. There are
+/// at most `turns` reads.
 ///
-/// It ends with [`Ended::EndOfInput`] if the input ends between two frames; with [`Ended::BadFrame`] if it ends inside
-/// one, or a length comes that no frame has; with [`Ended::ReadFault`] if the reader failed; with [`Ended::TurnLimit`]
-/// if the last read that may be made gave octets; and with [`Ended::Memory`] if memory ran out for the octets of a read
-/// or for a frame. All frames of what was read were handed on; only after [`Ended::Memory`] some may be missing.
+/// [`Ended::EndOfInput`]: the input ended between two frames. [`Ended::BadFrame`]: it ended inside a frame, or the
+/// length of a frame is out of range. [`Ended::ReadFault`]: the reader failed. [`Ended::TurnLimit`]: all `turns` reads
+/// gave octets. [`Ended::Memory`]: memory ran out for the octets of a read or for a frame. All frames that the reads
+/// completed were handed on; only after [`Ended::Memory`] some may be missing.
 pub fn receive<R: LinkRead, I: Inbox>(
     alloc: Global,
     reader: &mut R,
@@ -54,7 +54,7 @@ pub fn receive<R: LinkRead, I: Inbox>(
     Ended::TurnLimit
 }
 
-/// Hands each frame that is there whole to the inbox, in their order, and says that these were all.
+/// Hands all complete frames to the inbox, in their order, and reports the end of the read.
 fn hand_on<I: Inbox>(frames: &mut FrameReader, inbox: &mut I) -> Result<(), FrameFault>
     ensures { HandsOn (I.messages inbox.old) (I.messages inbox.new) frames.old frames.new result }
 {
@@ -63,7 +63,7 @@ fn hand_on<I: Inbox>(frames: &mut FrameReader, inbox: &mut I) -> Result<(), Fram
     handed_on
 }
 
-/// Hands each frame that is there whole to the inbox, in their order.
+/// Hands all complete frames to the inbox, in their order.
 fn hand_on_each<I: Inbox>(frames: &mut FrameReader, inbox: &mut I) -> Result<(), FrameFault>
     ensures { HandsOn (I.messages inbox.old) (I.messages inbox.new) frames.old frames.new result }
 {

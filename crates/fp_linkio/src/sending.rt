@@ -11,13 +11,13 @@ use crate::{Ended, LinkWrite, Outlet};
 use fp_book::Parcel;
 use fp_streams::{WriteFault, write_all};
 
-/// Writes each parcel of an outlet, its head included, in one write where the device takes it (shown by cases), and
-/// then reports it sent. It sends at most `turns` parcels. It doesn't flush: if the writer keeps octets back, the
-/// outlet or the caller flushes it.
+/// Writes the parcels of an outlet, and reports each as sent after it. A parcel and its head are one write, if the
+/// device takes it whole (cases show this). There are at most `turns` parcels. This doesn't flush: if the writer has a
+/// buffer, you must flush it, in the outlet or after the call.
 ///
-/// It ends with [`Ended::EndOfInput`] if the outlet has no more; with [`Ended::WriteFault`] if the writer failed: a
-/// prefix of that parcel was written and not the whole, and it is reported unsent; and with [`Ended::TurnLimit`] after
-/// the last parcel that may be sent. A parcel that comes back from its report is abandoned.
+/// [`Ended::EndOfInput`]: the outlet has no more parcels. [`Ended::WriteFault`]: the writer failed. A prefix of the
+/// last parcel was written, but not all of it, and it was reported unsent. [`Ended::TurnLimit`]: `turns` parcels were
+/// sent. A parcel that a report returns is abandoned.
 pub fn send_loop<W: LinkWrite, O: Outlet>(writer: &mut W, turns: u64, outlet: &mut O) -> Ended
     ensures sends { Sends turns (W.contents writer.old) (W.contents writer.new)
         (O.calls outlet.old) (O.calls outlet.new) result }
@@ -38,8 +38,8 @@ pub fn send_loop<W: LinkWrite, O: Outlet>(writer: &mut W, turns: u64, outlet: &m
     Ended::TurnLimit
 }
 
-/// Writes the octets of a parcel and nothing else. After a fault, in which the writer failed, a prefix of them was
-/// written and not the whole.
+/// Writes the octets of a parcel and nothing else. A fault means that the writer failed; a prefix of the octets was
+/// written, but not all.
 fn write_parcel<W: LinkWrite>(writer: &mut W, parcel: &Parcel) -> Result<(), WriteFault>
     ensures written { OnOk result (Appends (W.contents writer.old) (W.contents writer.new) (octets_in parcel.now)) }
     ensures part { OnErr result (AppendsPart (W.contents writer.old) (W.contents writer.new) (octets_in parcel.now)) }
@@ -48,7 +48,7 @@ fn write_parcel<W: LinkWrite>(writer: &mut W, parcel: &Parcel) -> Result<(), Wri
     write_all(writer, parcel.octets())
 }
 
-/// Abandons a parcel that came back from its report.
+/// Abandons a parcel that its report returned.
 fn abandon_foreign(reported: Result<(), Parcel>) {
     if let Err(foreign) = reported {
         foreign.abandon();

@@ -1,4 +1,4 @@
-//! The frames of a link on their way to its book.
+//! The frames of a link between their receipt and their post to the book.
 
 ghost use Rattle.std.specs.Prelude.{◌≡◌, ◌⊎◌, ◌≤◌, [], ◌++◌, ◌==◌, true, nat_le, length, max, ◌+◌, IfOk, OnOk, OnErr};
 ghost use Rattle.std.specs.VecDeque.{deque_capacity, deque_len};
@@ -15,21 +15,21 @@ use std::alloc::{AllocError, Global};
 use std::collections::VecDeque;
 use std::marker::Model;
 
-/// How frames are prepared.
+/// The settings to prepare frames with.
 #[derive(Clone, Copy)]
 pub struct Reading<'x> {
-    /// What the messages take memory from.
+    /// The allocator for the messages.
     pub alloc: Global,
-    /// The table from which they are answered. `None`: memory ran out for it, and they are prepared as lost.
+    /// The table that answers them. `None`: out of memory for it, and they are prepared as lost.
     pub table: Option<&'x Table>,
-    /// The names of application contexts that are accepted.
+    /// The accepted application context names.
     pub contexts: &'x [Name],
-    /// When they are posted.
+    /// The moment of the post.
     pub moment: Moment,
 }
 
 impl Reading<'_> {
-    /// What a frame is prepared to.
+    /// Prepares a frame.
     fn prepare(&self, frame: Frame) -> Prepared
         ensures frame { (arrival_of result).frame ≡ frame }
         ensures read { IsReadBy self.now result }
@@ -41,18 +41,18 @@ impl Reading<'_> {
     }
 }
 
-/// The frames of a link that came and aren't posted, in their order.
+/// The received frames of a link that aren't posted yet, in their order.
 ///
-/// Frames are fed at the back. Those at the front are prepared for a post, into a list of the caller. What is left of
-/// that list after the post comes back to the front, to be prepared again later. After [`ArrivalQueue::quit`] only
-/// frames that came back to the queue come out of it.
+/// Frames are fed at the back. The first ones are prepared for a post, into a list of the caller. After the post you
+/// must give the remaining messages of that list back with [`ArrivalQueue::take_back`]; they return to the front, to be
+/// prepared again later. After [`ArrivalQueue::quit`] the queue holds only such frames.
 #[derive(Drop)]
 pub struct ArrivalQueue {
-    // Those that aren't prepared.
+    // The frames that aren't prepared.
     frames: VecDeque<Frame>,
-    // How many are prepared for one post: few after one that was held back.
+    // The number of frames to prepare for one post: 1 after a post that was held back.
     portion: usize,
-    // Whether frames that come are dropped.
+    // Whether new frames are dropped.
     is_over: bool,
 }
 
@@ -67,8 +67,8 @@ impl Model for ArrivalQueue {
     ghost invariant = { λ q. (0 < q.portion) × (q.portion ≤ 64) };
 }
 
-/// Moves frames from the front of a list to the back of another one, prepared, until that has `portion` messages or no
-/// frame is left. There is room for them.
+/// Prepares frames from the front of a list and moves them to the back of another one, until that has `portion`
+/// messages or no frame is left. You must leave room for them.
 #[tactic(auto, using(crate::proofs::Adding::adds_none))]
 fn prepare_front(
     frames: &mut VecDeque<Frame>,
@@ -91,7 +91,7 @@ fn prepare_front(
     }
 }
 
-/// Moves the frames of messages to the front of a list, for which it has room.
+/// Moves the frames of messages to the front of a list. You must leave room for them.
 fn return_frames(frames: &mut VecDeque<Frame>, messages: &mut VecDeque<Prepared>)
     requires room { deque_len frames.old + deque_len messages.old ≤ deque_capacity frames.old }
     ensures order { frames.new.items ≡ frames_of messages.old.items ++ frames.old.items }
@@ -103,10 +103,10 @@ fn return_frames(frames: &mut VecDeque<Frame>, messages: &mut VecDeque<Prepared>
 }
 
 impl ArrivalQueue {
-    /// How many messages are prepared for one post at most.
+    /// The most messages of one post.
     pub const MOST: usize = 64;
 
-    /// No frame came yet.
+    /// An empty queue.
     pub fn new(alloc: Global) -> Result<ArrivalQueue, AllocError>
         ensures { IfOk result (λ queue. queue ≡ no_arrivals) }
     {
@@ -117,7 +117,7 @@ impl ArrivalQueue {
         })
     }
 
-    /// Whether no frame waits.
+    /// Whether the queue is empty.
     pub fn is_empty(&self) -> bool
         ensures { result ≡ (length self.now.frames == 0) }
     {
@@ -131,7 +131,7 @@ impl ArrivalQueue {
         self.frames.len() >= ArrivalQueue::MOST
     }
 
-    /// A frame came. If an allocation fails, it is dropped, and so is each that comes after it.
+    /// Adds a received frame. If an allocation fails, this frame and all later ones are dropped.
     pub fn feed(&mut self, frame: Frame) -> Result<(), AllocError>
         ensures ok { OnOk result (self.new ≡ with_frame self.old frame) }
         ensures err { OnErr result (self.new ≡ record self.old { is_over = true }) }
@@ -146,7 +146,7 @@ impl ArrivalQueue {
         Ok(())
     }
 
-    /// Drops the frames that aren't prepared, and each that comes from now on.
+    /// Drops the frames in the queue, and all later ones.
     pub fn quit(&mut self)
         ensures { self.new ≡ quit self.old }
     {
@@ -154,8 +154,8 @@ impl ArrivalQueue {
         self.is_over = true;
     }
 
-    /// Prepares frames for the next post, and adds them to these messages, up to the portion. If an allocation fails,
-    /// nothing changes.
+    /// Prepares frames for the next post, and appends them to these messages, up to the portion in all. If an
+    /// allocation fails, nothing changes.
     pub fn prepare(
         &mut self,
         reading: &Reading<'_>,
@@ -175,9 +175,9 @@ impl ArrivalQueue {
         Ok(())
     }
 
-    /// Takes messages that weren't posted back, to be prepared again. The next portion is one message if there are
-    /// some, since the first of them was held back, and else twice the last one, up to the most. If an allocation fails,
-    /// nothing changes.
+    /// Takes back messages that weren't posted, to be prepared again. If there are some, the first of them was held
+    /// back, and the next portion is one message. Otherwise it is twice the last portion, up to the most. For example,
+    /// after a post that was held back it is 1, and then 2, 4, up to 64. If an allocation fails, nothing changes.
     pub fn take_back(&mut self, messages: &mut VecDeque<Prepared>) -> Result<(), AllocError>
         ensures ok { OnOk result ((self.new ≡ with_frames_back messages.old.items self.old)
             × (messages.new.items ≡ [])) }

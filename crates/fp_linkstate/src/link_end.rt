@@ -1,4 +1,4 @@
-//! The end of a link, from the first cause on until both sides of its socket are shut.
+//! The end of a link, from its first cause until both sides of its socket are shut.
 
 ghost use Rattle.std.specs.Prelude.{◌≡◌, None};
 ghost use Rattle.fp_linkstate.specs.Ended.{EndsInTime, EndsOnce, FaultsEnd, HasItsTime};
@@ -6,47 +6,47 @@ ghost use Rattle.fp_linkstate.specs.Ending.{deadline, step, step_draining, step_
 
 use crate::Why;
 
-/// How many milliseconds a link stays at most after the end of its input, or after the command `quit`.
+/// The longest time, in milliseconds, between the end of a link's input or the command `quit` and the end of the link.
 const MILLISECONDS_TO_END: u64 = 2_000;
 
-/// How far the end of a link has come. Times are milliseconds of one clock.
+/// The state of a link and its end. Times are milliseconds of one clock.
 #[derive(Clone, Copy, Debug, PartialEq, Eq)]
 pub enum LinkEnd {
     /// The link receives, serves and sends.
     Up {
-        /// Why a call of its socket failed, if one did: the loop that made the call ends soon.
+        /// The reason of the first failed call of its socket, if there is one. The loop that made the call ends soon.
         noted: Option<Why>,
     },
-    /// Nothing more is received. Messages that were accepted are served, and frames are sent.
+    /// The link receives no more. Accepted messages are served, and frames are sent.
     Draining {
         /// The first reason.
         why: Why,
-        /// The link goes down at this time, whatever is left.
+        /// The link goes down at this time, even if messages or frames are left.
         until: u64,
         /// Whether the peer closed its sending side.
         has_closed: bool,
     },
-    /// The book of the link is down, and the writing side of its socket is shut: octets that come are dropped until the
+    /// The book of the link is down, and the writing side of its socket is shut. Received octets are dropped until the
     /// peer closes.
     Lingering {
-        /// Both sides of the socket are shut at this time, whatever comes.
+        /// Both sides of the socket are shut at this time at the latest.
         until: u64,
     },
     /// The book of the link is down, and both sides of its socket are shut.
     Down,
 }
 
-/// What happens to a link that may end it.
+/// An event that may end a link.
 #[derive(Clone, Copy, Debug, PartialEq, Eq)]
 pub enum LinkEvent {
-    /// A read or a write failed, for this reason. The loop that made it reports its end by another event.
+    /// A read or a write failed, for this reason. Its loop reports the end by another event.
     CallFailed {
         /// The reason.
         why: Why,
     },
     /// The peer closed its sending side between two frames.
     EndOfInput {
-        /// When.
+        /// The time of the event.
         at: u64,
     },
     /// The receiving or the sending loop ended, for this reason.
@@ -54,9 +54,9 @@ pub enum LinkEvent {
         /// The reason.
         why: Why,
     },
-    /// The command `quit` came.
+    /// The command `quit` was given.
     Quit {
-        /// When.
+        /// The time of the event.
         at: u64,
     },
     /// The clock shows this time.
@@ -64,11 +64,11 @@ pub enum LinkEvent {
         /// The time.
         at: u64,
     },
-    /// Nothing is left to be served or sent, and all frames were handed on to the socket.
+    /// Nothing remains to be served or sent, and all frames were handed on to the socket.
     Quiet,
     /// The peer closed its sending side while octets were dropped.
     PeerClosed,
-    /// The run had a fault, for which all links go down.
+    /// The run had a fault that takes all links down.
     RunFault {
         /// The reason.
         why: Why,
@@ -77,7 +77,7 @@ pub enum LinkEvent {
     TooManyEntries,
 }
 
-/// What the thread that reports an event has to do.
+/// The duty of the thread that reports an event.
 #[derive(Clone, Copy, Debug, PartialEq, Eq)]
 pub enum Action {
     /// Nothing.
@@ -96,21 +96,21 @@ pub enum Action {
     Close,
 }
 
-/// A state, and what has to be done on the way to it.
+/// The next state, and the action on the way to it.
 #[derive(Clone, Copy)]
 pub(crate) struct Step {
     next: LinkEnd,
     action: Action,
 }
 
-/// Two seconds after this time.
+/// The time two seconds later.
 fn deadline(at: u64) -> u64
     ensures { result ≡ deadline at }
 {
     at.saturating_add(MILLISECONDS_TO_END)
 }
 
-/// To this state, without anything to be done.
+/// A step to this state, without an action.
 fn to(next: LinkEnd) -> Step
     ensures { result ≡ to next Action.Nothing }
 {
@@ -120,7 +120,7 @@ fn to(next: LinkEnd) -> Step
     }
 }
 
-/// The link goes down: the end is reported, and both sides of the socket are shut.
+/// The step down of a link that is up or drains: its end is reported, and both sides of the socket are shut.
 fn end(why: Why) -> Step
     ensures { result ≡ to LinkEnd.Down (Action.End why) }
 {
@@ -130,7 +130,7 @@ fn end(why: Why) -> Step
     }
 }
 
-/// A link that lingers goes down: both sides of the socket are shut.
+/// The step down of a link that lingers: both sides of the socket are shut.
 fn close() -> Step
     ensures { result ≡ to LinkEnd.Down Action.Close }
 {
@@ -215,7 +215,7 @@ fn step_lingering(until: u64, event: LinkEvent) -> Step
 }
 
 impl LinkEnd {
-    /// The link is up.
+    /// A link that is up.
     pub fn new() -> LinkEnd
         ensures up { result ≡ LinkEnd.Up None }
         ensures once { EndsOnce }
@@ -226,7 +226,7 @@ impl LinkEnd {
         LinkEnd::Up { noted: None }
     }
 
-    /// An event happens: what the calling thread has to do.
+    /// Takes an event, and returns the action. The calling thread must do it.
     pub fn meet(&mut self, event: LinkEvent) -> Action
         ensures state { self.new ≡ (step self.old event).next }
         ensures action { result ≡ (step self.old event).action }
@@ -245,8 +245,8 @@ impl LinkEnd {
         action
     }
 
-    /// How many milliseconds are left at this time until the link is down at the latest. `None`: its end hasn't begun,
-    /// or it is down.
+    /// The milliseconds from this time until the link is down at the latest. `None`: its end hasn't begun, or it is
+    /// down.
     pub fn time_left(&self, at: u64) -> Option<u64>
         ensures { result ≡ time_left self.now at }
     {

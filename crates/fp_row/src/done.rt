@@ -8,10 +8,10 @@ ghost use Rattle.fp_row.specs.Turn.{core_then, frames_for, served_in};
 use crate::heap_core::HeapCore;
 use crate::{RequestFrames, Turn};
 
-/// A turn that was served: how many of its entries were, the core after those, and the frames of what they requested.
-/// Its type keeps that these are what the service step makes of the turn, along its entries up to the first after which
-/// the dialogue is over, the frames under the turn's own identifiers, whichever thread served it. It is given back or
-/// abandoned.
+/// A turn that was served: how many of its entries were served, the core after them, and the frames of their requests.
+/// Its type guarantees that the service step gives exactly these for the turn: along its entries up to the first after
+/// which the dialogue is over, with frames under the turn's own identifiers, whichever thread served it. You must give
+/// it back or abandon it.
 #[must_use]
 #[derive(Debug)]
 pub struct Done {
@@ -23,10 +23,10 @@ pub struct Done {
     // The entries up to the one that ends the dialogue were served, or all.
     pub ghost served_is: { served ≡ length (served_in turn) },
 
-    // The core is that after those.
+    // The core after those entries.
     pub ghost after_is: { after ≡ core_then turn } by { Coded-set after-code _ _ },
 
-    // The frames are those of what they request.
+    // The frames of their requests.
     pub ghost frames_are: { frames ≡ frames_for turn } by { Prim.hlevel props },
 }
 
@@ -38,7 +38,7 @@ impl Done {
         &self.turn
     }
 
-    /// How many of its entries were served: those up to the first after which the dialogue is over, or all.
+    /// How many entries of the turn were served: those up to the first after which the dialogue is over, or all.
     pub fn served(&self) -> usize
         ensures { result ≡ self.now.served }
     {

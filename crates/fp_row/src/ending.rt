@@ -1,4 +1,4 @@
-//! Endings that aren't the service logic's.
+//! Endings from outside: not by the service logic.
 
 ghost use Rattle.std.specs.Prelude.{◌≡◌, Some};
 ghost use Rattle.fp_row.specs.Calls.{ended_by};
@@ -6,16 +6,15 @@ ghost use Rattle.fp_row.specs.Calls.{ended_by};
 /// How a dialogue was ended from outside: other than by its own service logic.
 #[derive(Clone, Copy, Debug, PartialEq, Eq)]
 pub enum Ending {
-    /// By its peer, whose End or Abort was accepted: its entries stay to be served, and its frames that wait are
-    /// dropped.
+    /// The peer's End or Abort was accepted. The dialogue's entries stay to be served; its waiting frames are dropped.
     ByPeer,
-    /// A message of it was refused, or its link went down: its entries and frames that wait are dropped. A turn that is
-    /// out may still be given.
+    /// A message of the dialogue was refused, or its link went down. Its waiting entries and frames are dropped. A turn
+    /// that is out may still be given back.
     Closed,
 }
 
 impl Ending {
-    /// How a dialogue is ended that had this ending before: one that was closed stays so.
+    /// The ending of a dialogue that had the ending `before`: a closed one stays closed.
     pub(crate) fn after(self, before: Option<Ending>) -> Ending
         ensures { ended_by self before ≡ Some result }
     {

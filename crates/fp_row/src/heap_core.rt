@@ -1,4 +1,4 @@
-//! Cores in a place of their own.
+//! Cores on the heap.
 
 ghost use Rattle.std.specs.Prelude.{◌≡◌, IfOk};
 ghost use Rattle.fp_row.specs.proof_only.Serving.{AreAll};
@@ -10,7 +10,7 @@ use fp_service::Core;
 use std::alloc::{AllocError, Global};
 use std::marker::Model;
 
-/// A core in a place of its own, so that what has it stays small and is cheap to move. Contracts see it as its core.
+/// A core in a place of its own on the heap, so that its owner is small and cheap to move. Contracts see the core.
 #[derive(Debug, Drop)]
 pub(crate) struct HeapCore {
     place: Box<Core>,
@@ -42,7 +42,8 @@ impl HeapCore {
         &self.place
     }
 
-    /// Serves entries of its dialogue until that is over, as [`Steps::of`]. `Err`: memory ran out.
+    /// Serves entries of the core's dialogue until it is over, as [`Steps::of`] does. `Err`: memory
+    /// ran out.
     pub(crate) fn serve_all(
         &mut self,
         alloc: Global,

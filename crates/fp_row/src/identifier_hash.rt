@@ -8,9 +8,9 @@ use std::hash::Hasher;
 /// An odd number near 2^32 divided by the golden ratio.
 const MULTIPLIER: u32 = 0x9E37_79B9;
 
-/// Hashes an identifier by its lowest bits, so that those that are given one after another are side by side in a hash
-/// map. It isn't for keys that a peer can choose: a link gives the identifiers itself, and its peer can only ask for
-/// them.
+/// Hashes an identifier by its lowest bits, so that identifiers given one after another are side by side in a hash map.
+/// For example, the lowest 32 bits of the hash of 7 are 7. You must not use it for keys that a peer can choose: a link
+/// gives the identifiers itself, and its peer can only ask for them.
 #[derive(Clone, Copy, Debug, Drop)]
 pub struct IdentifierHasher {
     // The last identifier.

@@ -1,15 +1,15 @@
-//! What the types of the layer keep.
+//! The guarantees of the layer's types.
 
 ghost use Rattle.fp_row.specs.Laws.{RowsKeepTheirOrder, TurnsAreServedByTheStep};
 ghost use Rattle.fp_row.specs.Rows.{AfterIsOne, PuttingBackChangesNothing};
 
 use fp_service::{births_stay, cut_is_a_front, entries_ask_once_at_most, folds_along_a_grown_list};
 
-/// Of each row: the entries served are the first of those that its service logic serves of the accepted ones, and its
-/// core is that after them. After them come the entries of the turn that is out and the entries that wait: together all
-/// that was accepted, or a prefix of it if the dialogue was closed or its core is over. No more frames were sent
-/// than are kept, kept than were accepted for sending, and accepted than the entries served request; all of these are
-/// kept where nothing ended the dialogue from outside. Each count is of these.
+/// Each row has served the first of those accepted entries that its service logic serves, and its core is the core
+/// after them. Next are the entries of the turn that is out, then the entries that wait: together all accepted entries,
+/// or a prefix of them if the dialogue was closed or its core is over. Frames sent ≤ kept ≤ accepted for sending ≤
+/// requested by the entries served; all of the accepted ones are kept unless the dialogue was ended from outside. The
+/// counts are of the requests of the entries served.
 pub fn rows_keep_their_order()
     ensures { RowsKeepTheirOrder }
 {
@@ -18,9 +18,9 @@ pub fn rows_keep_their_order()
     births_stay();
 }
 
-/// Of each turn that was served: the entries served are those up to the first after which the dialogue is over, or all;
-/// its core is what the service step makes of them, and its frames are those of what they request, under the turn's own
-/// identifiers, at most one for each.
+/// Each served turn has served its entries up to the first after which the dialogue is over, or all. Its core is the
+/// service step's after them. Its frames are the frames of their requests, under the turn's own identifiers, at most
+/// one for each entry.
 pub fn turns_are_served_by_the_step()
     ensures { TurnsAreServedByTheStep }
 {
@@ -28,13 +28,13 @@ pub fn turns_are_served_by_the_step()
     entries_ask_once_at_most();
 }
 
-/// The contract of [`Rows::after`](crate::Rows::after) allows one answer alone.
+/// The contract of [`Rows::after`](crate::Rows::after) allows exactly one answer.
 #[tactic(auto, using(crate::proofs::After::after_is_one))]
 pub fn after_is_one()
     ensures { AfterIsOne }
 {}
 
-/// To put a row under the identifier that it has changes nothing.
+/// Putting a row back under its own identifier changes nothing.
 #[tactic(auto, using(crate::proofs::PuttingBack::putting_back_changes_nothing))]
 pub fn putting_back_changes_nothing()
     ensures { PuttingBackChangesNothing }

@@ -5,8 +5,7 @@ ghost use Rattle.std.specs.Prelude.{◌≡◌, ◌≤◌, length};
 use fp_reply::MOST_OCTETS;
 use std::marker::Model;
 
-/// The octets of a frame that was requested, its head included: at most [`MOST_OCTETS`]. Contracts see them as their
-/// list.
+/// The octets of a requested frame, its head included: at most [`MOST_OCTETS`]. Contracts see their list.
 #[derive(Debug, Drop)]
 pub struct RequestFrame {
     octets: Vec<u8>,

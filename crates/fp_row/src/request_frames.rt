@@ -6,7 +6,7 @@ use crate::RequestFrame;
 use std::alloc::{AllocError, Global};
 use std::marker::Model;
 
-/// Frames that were requested, in order. Contracts see them as the list of their octets.
+/// Frames of requests, in order. Contracts see the list of their octets.
 #[derive(Debug, Drop)]
 pub struct RequestFrames {
     frames: Vec<RequestFrame>,
@@ -30,7 +30,7 @@ impl RequestFrames {
         }
     }
 
-    /// Puts a frame after the others. If memory runs out, they are unchanged.
+    /// Puts a frame after the others. If memory runs out, the list is unchanged.
     pub(crate) fn push(&mut self, frame: RequestFrame) -> Result<(), AllocError>
         ensures ok { OnOk result (self.new ≡ self.old ++ frame ∷ []) }
         ensures err { OnErr result (self.new ≡ self.old) }
@@ -39,14 +39,14 @@ impl RequestFrames {
         Ok(())
     }
 
-    /// How many there are.
+    /// The number of frames.
     pub fn len(&self) -> usize
         ensures { result ≡ length self.now }
     {
         self.frames.len()
     }
 
-    /// Whether there is none.
+    /// Whether there is no frame.
     pub fn is_empty(&self) -> bool
         ensures { IsTrue result ↔ (self.now ≡ []) }
     {

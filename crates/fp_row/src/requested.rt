@@ -1,23 +1,24 @@
-//! What becomes of requests.
+//! The outcome of requests.
 
 ghost use Rattle.std.specs.Prelude.{◌≡◌, length};
 ghost use Rattle.fp_row.specs.Calls.{frames_in, requested_of};
 
 use crate::{Ending, RequestFrames};
 
-/// What becomes of the requests of a turn that is given back.
+/// The outcome of the requests of a turn that is given back.
 #[derive(Debug, Drop)]
 pub enum Requested {
-    /// Nothing is requested.
+    /// No frame: the entries requested nothing.
     Nothing,
-    /// The frames are to be sent.
+    /// Frames to be sent.
     Frames(RequestFrames),
-    /// The dialogue was ended from outside, so this many requests of it aren't accepted.
+    /// The number of requests that weren't accepted, because the dialogue was ended from outside.
     Dropped(usize),
 }
 
 impl Requested {
-    /// What becomes of these frames, where the dialogue was ended so. Takes no memory.
+    /// The outcome of these frames in a dialogue with this ending from outside, if it has one.
+    /// Takes no memory.
     pub(crate) fn of(ended: Option<Ending>, frames: RequestFrames) -> Requested
         ensures { result ≡ requested_of ended frames }
     {

@@ -28,7 +28,7 @@ fn copies(alloc: Global, entries: &[Entry]) -> Result<Entries, AllocError>
     Ok(copy)
 }
 
-/// One dialogue: what it accepted, how much of that was served, and how many of its requests were sent.
+/// One dialogue: the entries that it accepted, how many of them were served, and how many of its requests were sent.
 #[derive(Debug, Drop)]
 pub struct Row {
     pub(crate) local: u32,
@@ -52,13 +52,13 @@ pub struct Row {
     pub(crate) out: usize,
     pub(crate) ended: Option<Ending>,
 
-    // What was served is the front of what was accepted.
+    // The served entries are the front of the accepted ones.
     pub ghost served_within: { served ≤ length accepted },
 
-    // The core is that after the entries that were served.
+    // The core is the one after the entries that were served.
     pub ghost core_is: { core ≡ core_after (fresh birth opened) (take served accepted) } by { Coded-set core-code _ _ },
 
-    // None of them comes after the one that ends the dialogue.
+    // No served entry follows the one that ends the dialogue.
     pub ghost cut_is: { cut (fresh birth opened) (take served accepted) ≡ take served accepted },
 
     // Each request is one of those entries'.
@@ -69,13 +69,13 @@ pub struct Row {
     // All of them are kept until the dialogue is ended from outside.
     pub ghost all_kept: { (not (is_some ended) && not (nat_eq kept (length (requests (fresh birth opened) (take served accepted))))) ≡ false },
 
-    // What is out are the next entries, of a dialogue that isn't over.
+    // The entries that are out are the next ones, of a dialogue that isn't over.
     pub ghost out_within: { served + out ≤ length accepted },
     pub ghost out_is_live: { (nat_lt 0 out && is_over core) ≡ false },
 }
 
-/// Puts entries after those that a dialogue accepted. The first ones stay in the list in which they came, which takes
-/// no memory. If memory runs out, nothing changes.
+/// Puts entries after those that a dialogue accepted. The first entries keep the list that they were handed in with,
+/// which takes no memory. If memory runs out, nothing changes.
 fn append(accepted: &mut Entries, entries: Entries) -> Result<(), AllocError>
     ensures ok { OnOk result (accepted.new ≡ accepted.old ++ entries) }
     ensures first { accepted.old ≡ [] → IsOk result }
@@ -135,14 +135,14 @@ impl Row {
         self.birth
     }
 
-    /// Whether it takes messages: its core isn't over, and it wasn't ended from outside.
+    /// Whether the dialogue takes messages: its core isn't over, and it wasn't ended from outside.
     pub fn is_admitted(&self) -> bool
         ensures { result ≡ is_admitted self.now }
     {
         self.ended.is_none() && !self.core.is_over()
     }
 
-    /// The entries that weren't served, those of the turn that is out first.
+    /// The entries that weren't served, the turn that is out first.
     fn unserved(&self) -> &[Entry]
         ensures { result.now ≡ unserved self.now }
     {
@@ -172,16 +172,15 @@ impl Row {
         !self.has_turn_out() && self.waits()
     }
 
-    /// Whether something of it is left: it is admitted, an entry waits, a turn is out, or a request is kept that wasn't
-    /// sent.
+    /// Whether something of the dialogue is left: it is admitted, an entry waits, a turn is out, or a kept request
+    /// wasn't sent.
     pub fn is_held(&self) -> bool
         ensures { result ≡ is_held self.now }
     {
         self.is_admitted() || self.has_turn_out() || self.waits() || self.sent < self.kept
     }
 
-    /// How many of the entries that weren't served, those of the turn that is out among them, take a place of the
-    /// dialogue.
+    /// How many of the unserved entries, including the turn that is out, take a place of the dialogue.
     pub fn places_taken(&self) -> usize
         ensures { result ≡ places_taken self.now }
     {
@@ -198,8 +197,8 @@ impl Row {
         self.unserved().iter().any(|entry| entry.kind.is_clock())
     }
 
-    /// The earliest moment at which it is given a Clock, in milliseconds since 1970-01-01T00:00:00Z: none where it
-    /// isn't admitted, or where a Clock waits or is out.
+    /// The earliest moment when the dialogue is given a Clock, in milliseconds since 1970-01-01T00:00:00Z. `None` if it
+    /// isn't admitted, or if a Clock waits or is out.
     pub fn deadline(&self) -> Option<u64>
         ensures { result ≡ deadline_of self.now }
     {
@@ -209,7 +208,7 @@ impl Row {
         Some(self.core.next_due())
     }
 
-    /// Whether it is due at a moment: it has a deadline, at or before that moment.
+    /// Whether the dialogue is due at a moment: it has a deadline, at or before that moment.
     pub fn is_due(&self, moment: Moment) -> bool
         ensures { result ≡ is_due self.now moment }
     {
@@ -221,7 +220,7 @@ impl Row {
 
     /// Puts the entries of a message after the others, and answers true. If the dialogue isn't admitted, it answers
     /// false; then, and if memory runs out, nothing changes, and the entries are lost. For no entries memory never runs
-    /// out. A caller that hands in the peer's end or abort also ends the dialogue ([`Row::end`]).
+    /// out. If you hand in the peer's end or abort, you must also end the dialogue ([`Row::end`]).
     pub fn accept(&mut self, entries: Entries) -> Result<bool, AllocError>
         ensures ok { IfOk result (λ taken. (taken ≡ is_admitted self.old) × Accepts taken self.old entries self.new) }
         ensures err { OnErr result (self.new ≡ self.old) }
@@ -237,8 +236,8 @@ impl Row {
         Ok(true)
     }
 
-    /// Puts a Clock of this moment after the entries, and says so. A dialogue that isn't due takes none, and nothing
-    /// changes; nor does it if memory runs out.
+    /// Puts a Clock of this moment after the entries, and answers true. If the dialogue isn't due, it answers false and
+    /// nothing changes; nor does anything if memory runs out.
     pub fn accept_clock(&mut self, moment: Moment) -> Result<bool, AllocError>
         ensures ok { IfOk result (λ taken. (taken ≡ is_due self.old moment) × Clocks taken self.old moment self.new) }
         ensures err { OnErr result (self.new ≡ self.old) }
@@ -252,7 +251,7 @@ impl Row {
         Ok(true)
     }
 
-    /// How many entries a turn has of a dialogue that is ready, with this many free places.
+    /// The number of entries in the next turn of a ready dialogue, with this many free places.
     fn next_count(&self, free: usize) -> usize
         requires within { self.now.served ≤ length self.now.accepted }
         requires room { 0 < free }
@@ -264,8 +263,8 @@ impl Row {
         Turn::MOST_ENTRIES.min(waiting.min(free))
     }
 
-    /// Hands out the turn of the next entries, as many as wait and have a place of those that are `free`, at most
-    /// [`Turn::MOST_ENTRIES`]: `None` exactly if the dialogue isn't ready. Then, and if memory runs out for a copy of
+    /// Hands out the turn of the next entries: as many as wait and as there are `free` places for, at most
+    /// [`Turn::MOST_ENTRIES`]. `None` exactly if the dialogue isn't ready. Then, and if memory runs out for a copy of
     /// the entries and of the core, nothing changes. A row hands out one turn at a time.
     pub fn take(&mut self, alloc: Global, free: usize) -> Result<Option<Turn>, AllocError>
         requires { 0 < free }
@@ -305,7 +304,7 @@ impl Row {
         self.entries_out() == entries.as_slice()
     }
 
-    /// Whether a turn has this core before its entries.
+    /// Whether this is the core, as a turn has it before its entries.
     fn is_before(&self, core: &Core) -> bool
         ensures { IsTrue result ↔ (self.now.core ≡ core.now) }
     {
@@ -330,16 +329,16 @@ impl Row {
         self.has_turn_out() && self.is_from_here(turn) && self.are_out(&turn.entries)
     }
 
-    /// What it accepted can be counted.
+    /// The number of accepted entries is less than 2^64.
     fn accepted_fits(&self)
         ensures { length self.now.accepted < 2 ^ 64 }
     {
         let _count = self.accepted.len();
     }
 
-    /// Takes back the turn that is out, served: the entries that were served count as served, and their requests are to
-    /// be sent unless the dialogue was ended from outside. A stale or foreign turn, one whose identifiers, position,
-    /// entries or core before aren't those of the turn that is out, comes back, and nothing changes. Takes no memory.
+    /// Takes back the turn that is out, served: its served entries count as served, and their requests are to be sent
+    /// unless the dialogue was ended from outside. A stale or foreign turn is returned, and nothing changes: its
+    /// identifiers, position, entries or core before aren't those of the turn that is out. Takes no memory.
     pub fn give(&mut self, done: Done) -> Result<Requested, Done>
         ensures ok { IfOk result (λ requested. Gives self.old done requested self.new) }
         ensures err { IfErr result (λ back. (back ≡ done) × (self.new ≡ self.old)) }
@@ -369,9 +368,9 @@ impl Row {
         Ok(requested)
     }
 
-    /// Serves the next entries in their place: what comes of it is what comes of handing out their turn ([`Row::take`]),
-    /// serving it ([`Turn::serve`]) and giving it back ([`Row::give`]). `None` exactly if the dialogue isn't ready.
-    /// Then, and if memory runs out for the frames, nothing changes.
+    /// Serves the next entries in their place, with the same result as handing out their turn ([`Row::take`]), serving
+    /// it ([`Turn::serve`]) and giving it back ([`Row::give`]). `None` exactly if the dialogue isn't ready. Then, and
+    /// if memory runs out for the frames, nothing changes.
     pub fn serve_next(
         &mut self,
         alloc: Global,
@@ -411,8 +410,8 @@ impl Row {
         }))
     }
 
-    /// Takes back the turn that is out, not served: its entries are the next ones again. A stale or foreign turn
-    /// comes back, and nothing changes. Takes no memory.
+    /// Takes back the turn that is out, not served: its entries are the next ones again. A stale or foreign turn is
+    /// returned, and nothing changes. Takes no memory.
     pub fn put_back(&mut self, turn: Turn) -> Result<(), Turn>
         ensures ok { OnOk result (PutsBack self.old turn self.new) }
         ensures err { IfErr result (λ back. (back ≡ turn) × (self.new ≡ self.old)) }
@@ -426,8 +425,8 @@ impl Row {
         Ok(())
     }
 
-    /// Counts one more of the kept requests as sent, and says so; where all were sent, nothing changes. Takes no
-    /// memory.
+    /// Counts one more of the kept requests as sent, and answers true. If all were sent, it answers false and nothing
+    /// changes. Takes no memory.
     pub fn sent(&mut self) -> bool
         ensures { Sends result self.old self.new }
     {
@@ -438,7 +437,7 @@ impl Row {
         true
     }
 
-    /// How many requests are kept where the dialogue is ended from outside: those that were sent, and the one that is
+    /// How many requests are kept when the dialogue is ended from outside: those that were sent, and the one that is
     /// being sent.
     fn kept_by_end(&self, is_sending: bool) -> usize
         ensures { result ≡ min self.now.kept (self.now.sent + sending is_sending) }
@@ -451,8 +450,8 @@ impl Row {
     }
 
     /// Ends the dialogue from outside. Requests that wait to be sent are dropped; if `is_sending`, except the one that
-    /// is being sent now. By [`Ending::Closed`] the entries that wait are dropped too. A dialogue that was closed stays
-    /// closed. Says whether a request was dropped. Takes no memory.
+    /// is being sent now. With [`Ending::Closed`] the waiting entries are dropped too. A closed dialogue stays closed.
+    /// Returns whether a request was dropped. Takes no memory.
     pub fn end(&mut self, ending: Ending, is_sending: bool) -> bool
         ensures ends { Ends ending is_sending self.old self.new }
         ensures drops { result ≡ nat_lt self.new.kept self.old.kept }

@@ -20,17 +20,17 @@ use std::collections::HashMap;
 use std::hash::BuildHasherDefault;
 use std::marker::Model;
 
-/// Leads from identifiers to slab keys.
+/// From identifiers to slab keys.
 type Index = HashMap<u32, usize, BuildHasherDefault<IdentifierHasher>>;
 
-/// Rows, each under a local transaction identifier (ITU-T Q.773, 4.2.1.3), at most one under each. Contracts see them
-/// as a finite map.
+/// Rows, each under a local transaction identifier (ITU-T Q.773, 4.2.1.3), at most one under each. Contracts see a
+/// finite map.
 #[derive(Debug, Drop)]
 pub struct Rows {
-    // Each row stays where it is while others come and go, until the slab grows. Its identifier is beside it: a row
-    // that is lent may be changed in any way.
+    // A row isn't moved when others are inserted or removed, until the slab grows. Its identifier is beside it, because
+    // a row that is lent may be changed in any way.
     rows: Slab<(u32, Row)>,
-    // Leads from each identifier to the key of its row.
+    // From each identifier to the key of its row.
     index: Index,
     alloc: Global,
 }
@@ -52,14 +52,14 @@ impl Model for Rows {
     ghost invariant = { λ rows. Leads (key_in rows.index) rows.rows };
 }
 
-/// The key that an index has for an identifier.
+/// The key of an identifier in an index.
 fn key_in(index: &Index, local: u32) -> Option<usize>
     ensures { result ≡ key_in index.now local }
 {
     index.get(&local).copied()
 }
 
-/// Whether an identifier is above this one, as each is above `None`.
+/// Whether an identifier is above this one. Each identifier is above `None`.
 fn is_above(local: Option<u32>, other: u32) -> bool
     ensures { result ≡ is_above local other }
 {
@@ -69,7 +69,7 @@ fn is_above(local: Option<u32>, other: u32) -> bool
     }
 }
 
-/// Whether a frame of this dialogue is being sent, by the dialogue of which one is.
+/// Whether `sending`, the dialogue whose frame is being sent, is this dialogue.
 fn is_sent(sending: Option<u32>, local: u32) -> bool
     ensures { result ≡ is_sent sending local }
 {
@@ -79,7 +79,7 @@ fn is_sent(sending: Option<u32>, local: u32) -> bool
     }
 }
 
-/// Closes a dialogue, and says whether something of it is left.
+/// Closes a dialogue, and returns whether something of it is left.
 fn close(row: &mut Row, is_sending: bool) -> bool
     ensures { Closes is_sending row.old (if result then Some row.new else None) }
 {
@@ -88,7 +88,7 @@ fn close(row: &mut Row, is_sending: bool) -> bool
 }
 
 impl Rows {
-    /// No rows. Takes no memory.
+    /// An empty map. Takes no memory.
     pub fn new(alloc: Global) -> Rows
         ensures { result ≡ map.empty }
     {
@@ -99,20 +99,20 @@ impl Rows {
         }
     }
 
-    /// The allocator with which they were made.
+    /// The allocator of the map.
     pub fn allocator(&self) -> Global {
         self.alloc
     }
 
-    /// How many there are.
+    /// The number of rows.
     pub fn len(&self) -> usize
         ensures { result ≡ map.len self.now }
     {
         self.rows.len()
     }
 
-    /// Puts a row under an identifier. If one was there, it is replaced, and no memory is taken. If memory runs out,
-    /// the row comes back in `Err`, and nothing changes.
+    /// Puts a row under an identifier. A row that was there is replaced, which takes no memory. If memory runs out, the
+    /// row is returned in `Err`, and nothing changes.
     pub fn insert(&mut self, local: u32, row: Row) -> Result<(), Row>
         ensures ok { OnOk result (self.new ≡ map.insert self.old local row) }
         ensures err { IfErr result (λ back. (back ≡ row) × (self.new ≡ self.old)) }
@@ -133,7 +133,7 @@ impl Rows {
         Ok(())
     }
 
-    /// Gives the row under an identifier, if there is one.
+    /// The row under an identifier, if there is one.
     pub fn get(&self, local: u32) -> Option<&Row>
         ensures { option_copied result ≡ map.get self.now local }
     {
@@ -143,8 +143,8 @@ impl Rows {
         Some(&self.rows[key].1)
     }
 
-    /// Lends the row under an identifier, if there is one, to be changed. What it is when the loan ends stays under the
-    /// identifier.
+    /// Lends the row under an identifier, if there is one, to be changed. Its state at the end of the loan stays under
+    /// the identifier.
     pub fn get_mut(&mut self, local: u32) -> Option<&mut Row>
         ensures* writes_back { sem 𝓛 (LendsIf the_row row_type.the_row self.entry result (λ (w : Row). map.insert self.old local w) self.old) }
         ensures value { option_copied_mut result ≡ map.get self.old local }
@@ -155,7 +155,7 @@ impl Rows {
         Some(&mut self.rows[key].1)
     }
 
-    /// Takes the row under an identifier out and hands it over, if there is one. Takes no memory.
+    /// Removes the row under an identifier and returns it, if there is one. Takes no memory.
     pub fn remove(&mut self, local: u32) -> Option<Row>
         ensures row { result ≡ map.get self.old local }
         ensures others { self.new ≡ map.remove self.old local }
@@ -166,8 +166,8 @@ impl Rows {
         Some(self.rows.remove(key).1)
     }
 
-    /// Closes every dialogue, and removes those of which nothing is left. `sending` is the dialogue whose frame is being
-    /// sent, if one is. Takes no memory.
+    /// Closes every dialogue, and removes those with nothing left. `sending` is the dialogue whose frame is being sent,
+    /// if one is. Takes no memory.
     pub fn close_all(&mut self, sending: Option<u32>)
         ensures { (local : ℕ) → ClosesAt (is_sent sending local) (map.get self.old local) (map.get self.new local) }
     {
@@ -196,7 +196,7 @@ impl Rows {
         due.count()
     }
 
-    /// How many entries the dialogues keep: all that each of them accepted. Goes through all of them.
+    /// How many entries the dialogues keep: the sum of all that they accepted. Goes through all dialogues.
     pub fn entry_count(&self) -> u64
         requires { entry_count self.now < 2 ^ 64 }
         ensures { result ≡ entry_count self.now }

@@ -2,15 +2,15 @@
 
 use crate::Requested;
 
-/// What came of the next entries of a dialogue, which were served in its row. No turn of them is out.
+/// The result of serving the next entries of a dialogue in its row. No turn of them is out.
 #[derive(Debug, Drop)]
 pub struct ServedTurn {
-    /// The place of the first of them among those that the dialogue accepted, from 0.
+    /// The place of the first of the entries among those that the dialogue accepted, from 0.
     pub position: usize,
-    /// How many there were, as many as a turn of them would have had.
+    /// How many entries there were: as many as their turn would have had.
     pub count: usize,
-    /// How many of them were served: those up to the first after which the dialogue is over, or all.
+    /// How many of the entries were served: those up to the first after which the dialogue is over, or all.
     pub served: usize,
-    /// What becomes of their requests.
+    /// The outcome of their requests.
     pub requested: Requested,
 }

@@ -12,17 +12,17 @@ use fp_reply::bytes_of;
 use fp_service::{Core, Request};
 use std::alloc::{AllocError, Global};
 
-/// What came of entries that were served so far.
+/// The result of the entries served so far.
 #[derive(Debug, Drop)]
 pub(crate) struct Steps {
-    /// How many of them were served.
+    /// How many entries were served.
     pub(crate) served: usize,
-    /// The frames of what they requested.
+    /// The frames of their requests.
     pub(crate) frames: RequestFrames,
 }
 
-/// Puts the frame of a request, under these identifiers, after the others, if there is one. If memory runs out, they
-/// are unchanged.
+/// Puts the frame of a request, under these identifiers, after the others, if there is a request. If memory runs out,
+/// the frames are unchanged.
 fn add_frame(
     alloc: Global,
     frames: &mut RequestFrames,
@@ -60,8 +60,8 @@ impl Steps {
         Ok(())
     }
 
-    /// Serves entries, none of which was served, until the dialogue is over: `core` is the core before them, and then
-    /// the one after those that were served. `Err`: memory ran out.
+    /// Serves entries from the first on, until the dialogue is over: `core` is the core before them, and then the one
+    /// after those that were served. `Err`: memory ran out.
     fn serve_all(
         &mut self,
         alloc: Global,
@@ -82,7 +82,7 @@ impl Steps {
         Ok(())
     }
 
-    /// What comes of entries of a dialogue, which are served until it is over: `core` is the core before them, and then
+    /// Serves entries of a dialogue until it is over, and returns the result: `core` is the core before them, and then
     /// the one after those that were served. `Err`: memory ran out.
     pub(crate) fn of(
         alloc: Global,

@@ -13,7 +13,7 @@ use fp_tids::link_of;
 use std::alloc::Global;
 
 /// The next entries of a dialogue, at most [`Turn::MOST_ENTRIES`], with the core before them. A row hands out one turn
-/// at a time. It is served, put back or abandoned.
+/// at a time. You must serve it, put it back or abandon it.
 #[must_use]
 #[derive(Debug)]
 pub struct Turn {
@@ -25,7 +25,7 @@ pub struct Turn {
 }
 
 impl Turn {
-    /// How many entries a turn has at most.
+    /// The most entries of a turn.
     pub const MOST_ENTRIES: usize = 16;
 
     /// The link of the dialogue, 0 to 7.
@@ -63,7 +63,7 @@ impl Turn {
         self.position as u64
     }
 
-    /// How many entries there are.
+    /// The number of entries.
     pub fn count(&self) -> usize
         ensures { result ≡ length self.now.entries }
     {
@@ -71,7 +71,7 @@ impl Turn {
     }
 
     /// Serves the entries: makes the step of the service logic for one after the other, until the dialogue is over, and
-    /// the frames of what they request. If memory runs out, the turn comes back unchanged.
+    /// the frames of their requests. If memory runs out, the turn is returned unchanged.
     pub fn serve(self, alloc: Global) -> Result<Done, Turn>
         ensures turn { IfOk result (λ done. done.turn ≡ self) }
         ensures same { IfErr result (λ turn. turn ≡ self) }
@@ -97,7 +97,7 @@ impl Turn {
         self.spend();
     }
 
-    /// Spends a turn that came back to its dialogue. Takes no memory.
+    /// Spends a turn that is back in its dialogue. Takes no memory.
     pub(crate) fn spend(self) {
         let Turn {
             local: _,

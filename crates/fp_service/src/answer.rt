@@ -21,7 +21,8 @@ impl Core {
         }
     }
 
-    /// Notes that a Continue or End is requested: it carries the AARE of a dialogue with an application context.
+    /// Records that a Continue or End was requested. The first one carries the AARE of a dialogue with an application
+    /// context.
     fn answer(&mut self)
         ensures { self.new ≡ answered self.old }
     {

@@ -8,7 +8,7 @@ use fp_digits::{Cause, Moment};
 use fp_records::Destinations;
 
 impl Core {
-    /// The next destination is tried; if none is left, the call is released for this cause.
+    /// Tries the next destination. If none is left, releases the call for this cause.
     #[tactic(auto, unfolding(crate::specs::Attempt::try_next))]
     pub(crate) fn try_next(
         &mut self,
@@ -30,7 +30,7 @@ impl Core {
         )
     }
 
-    /// An operation failed, and so did the destination that is tried.
+    /// Handles a failed operation: the current destination has failed, too.
     #[tactic(auto, unfolding(crate::specs::Attempt::on_failure))]
     pub(crate) fn on_failure(&mut self, stage: Stage, moment: Moment) -> Option<Request>
         ensures { (self.new, result) ≡ on_failure stage self.old moment }

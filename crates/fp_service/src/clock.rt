@@ -1,4 +1,4 @@
-//! A Clock, the entry of the time that has passed.
+//! A Clock: the entry for the passing of time.
 
 ghost use Rattle.std.specs.Prelude.{◌≡◌};
 ghost use Rattle.fp_service.specs.Clock.{on_clock, on_silence};
@@ -7,8 +7,8 @@ use crate::{Core, Instruction, Request, Stage};
 use fp_digits::Moment;
 
 impl Core {
-    /// A Clock: the invocations that are due end. The dialogue is aborted if a test was not answered in time or if the
-    /// peer has been quiet for too long; else its call may be tested.
+    /// Handles a Clock: the invocations that are due end. The dialogue is aborted if a test wasn't answered in time, or
+    /// if the peer has been silent for too long; otherwise its call may be tested.
     #[tactic(auto, unfolding(crate::specs::Clock::on_clock))]
     pub(crate) fn on_clock(&mut self, stage: Stage, moment: Moment) -> Option<Request>
         ensures { (self.new, result) ≡ on_clock stage self.old moment }
@@ -24,7 +24,7 @@ impl Core {
         self.on_silence(stage, moment)
     }
 
-    /// A call that waits is tested if no test is active and its peer has been quiet for long enough.
+    /// Tests a waiting call, if no test is active and its peer has been silent for long enough.
     #[tactic(auto, unfolding(crate::specs::Clock::on_silence))]
     fn on_silence(&mut self, stage: Stage, moment: Moment) -> Option<Request>
         ensures { (self.new, result) ≡ on_silence stage self.old moment }

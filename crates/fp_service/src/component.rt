@@ -1,10 +1,10 @@
-//! Components that are sent.
+//! Components to send.
 
 use crate::Instruction;
 use fp_inap::OperationError;
 use fp_q773::Problem;
 
-/// A component that is sent to the switch (Q.773, 4.2.2).
+/// A component for the switch (Q.773, 4.2.2).
 #[derive(Clone, Copy, Debug)]
 pub enum Component {
     /// An Invoke of an operation.
@@ -25,7 +25,7 @@ pub enum Component {
     Reject {
         /// The invoke identifier of that component, if it was readable.
         identifier: Option<i8>,
-        /// What is wrong with it.
+        /// The problem of the component.
         problem: Problem,
     },
 }

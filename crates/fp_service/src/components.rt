@@ -1,4 +1,4 @@
-//! The components of a message that is sent.
+//! The components of a message to send.
 
 ghost use Rattle.std.specs.Prelude.{◌≡◌, ◌≤◌, ◌∷◌, [], false, length};
 ghost use Rattle.fp_service.specs.Components.{OneRequestsReport, requests_report};
@@ -6,14 +6,14 @@ ghost use Rattle.fp_service.specs.Components.{OneRequestsReport, requests_report
 use crate::Component;
 use std::marker::Model;
 
-/// The components of a message that is sent, at most two, the second of which isn't an Invoke of
-/// RequestReportBCSMEvent. It has a fixed size. Contracts see it as their list.
+/// The components of a message to send, at most two. The second isn't an Invoke of
+/// RequestReportBCSMEvent. The value has a fixed size. Contracts see it as a list.
 #[derive(Debug, Drop)]
 pub struct Components {
     places: Places,
 }
 
-/// None, one or two components, the first one first.
+/// At most two components, the first one first.
 #[derive(Clone, Copy, Debug)]
 enum Places {
     None,
@@ -55,7 +55,7 @@ impl Components {
         }
     }
 
-    /// Two components. The second one isn't an Invoke of RequestReportBCSMEvent.
+    /// Two components. The second must not be an Invoke of RequestReportBCSMEvent.
     pub fn two(first: Component, second: Component) -> Components
         requires { requests_report second ≡ false }
         ensures { result ≡ first ∷ second ∷ [] }

@@ -1,4 +1,4 @@
-//! What the service logic knows of a dialogue.
+//! The state of the service logic for one dialogue.
 
 ghost use Rattle.std.specs.Option.{option_map_or};
 ghost use Rattle.std.specs.Prelude.{◌≡◌, ◌≤◌, ◌↔◌, ◌∷◌, ◌++◌, IsTrue, All, min};
@@ -12,8 +12,8 @@ use fp_digits::Moment;
 use fp_entry::Entry;
 use fp_ism::{Invocations, least_is_at_most_each};
 
-/// What the service logic knows of a dialogue between two entries. It has a fixed size and may be copied. Two are equal
-/// exactly if all their parts are ([`equal_cores_are_the_same`](crate::equal_cores_are_the_same)).
+/// The state of the service logic for one dialogue, between two entries. It has a fixed size and may be copied. Two are
+/// equal exactly if all their parts are ([`equal_cores_are_the_same`](crate::equal_cores_are_the_same)).
 #[derive(Clone, Copy, Debug, PartialEq, Eq)]
 pub struct Core {
     pub(crate) state: State,
@@ -22,14 +22,14 @@ pub struct Core {
     // Whether the AARE that accepts the dialogue was sent.
     pub(crate) accepted: bool,
     pub(crate) invocations: Invocations,
-    // The moment of the last entry that wasn't a Clock, at first that of the Begin.
+    // The moment of the last entry that wasn't a Clock; at first, the moment of the Begin.
     pub(crate) last: Moment,
 }
 
-/// The time, in milliseconds without an entry of the peer, after which a dialogue is aborted.
+/// The time without an entry from the peer, in milliseconds, after which a dialogue is aborted.
 const QUIET_LIMIT: u64 = 300_000;
 
-/// The time, counted alike, after which a call that waits is tested.
+/// The time without an entry from the peer, in milliseconds, after which a waiting call is tested.
 const TEST_LIMIT: u64 = 120_000;
 
 /// The earlier of a moment and another one, if there is another.
@@ -43,7 +43,7 @@ fn earlier(moment: u64, other: Option<u64>) -> u64
 }
 
 impl Core {
-    /// The core of a dialogue that is the `birth`-th of its link and whose Begin came at this moment.
+    /// The core of a new dialogue: the `birth`-th of its link, with its Begin at this moment.
     pub fn new(birth: u64, moment: Moment) -> Core
         ensures { result ≡ fresh birth moment }
     {
@@ -64,7 +64,7 @@ impl Core {
         self.state
     }
 
-    /// The number of the dialogue among those that its link accepted, from 1.
+    /// The number of the dialogue among the accepted ones of its link, from 1.
     pub fn birth(&self) -> u64
         ensures { result ≡ self.now.birth }
     {
@@ -78,7 +78,7 @@ impl Core {
         self.invocations
     }
 
-    /// Whether the dialogue is over: nothing is requested any more.
+    /// Whether the dialogue is over. If so, there are no more requests.
     pub fn is_over(&self) -> bool
         ensures value { result ≡ is_over self.now }
         ensures over { IsTrue result ↔ (self.now.state ≡ Over) }
@@ -86,9 +86,9 @@ impl Core {
         self.state.is_over()
     }
 
-    /// The earliest moment at which a Clock does something, in milliseconds since 1970-01-01T00:00:00Z: an invocation
-    /// is due; 300,000 ms have passed since the last entry that wasn't a Clock; or, if the dialogue waits and no test
-    /// is active, 120,000 ms have.
+    /// The earliest moment when a Clock has an effect, in milliseconds since 1970-01-01T00:00:00Z: an invocation is
+    /// due; or 300,000 ms have passed since the last entry that wasn't a Clock; or, if the call waits and no test is
+    /// active, 120,000 ms.
     pub fn next_due(&self) -> u64
         ensures value { result ≡ next_due self.now }
         ensures least { All (λ due. result ≤ due)
@@ -98,7 +98,7 @@ impl Core {
         earlier(self.quiet_until(), self.next_before_quiet())
     }
 
-    /// The earliest moment at which an invocation is due or the call is tested.
+    /// The earliest moment when an invocation is due or the call is tested.
     fn next_before_quiet(&self) -> Option<u64>
         ensures { result ≡ least_of (test_moments self.now ++ dues self.now.invocations.active) }
     {
@@ -117,7 +117,7 @@ impl Core {
         self.state.is_waiting() && !self.invocations.testing()
     }
 
-    /// Sets the moment of the last entry, unless this one is a Clock.
+    /// Records the moment of an entry, unless it is a Clock.
     pub(crate) fn touch(&mut self, entry: &Entry)
         ensures { self.new ≡ touched self.old entry.now }
     {
@@ -133,15 +133,15 @@ impl Core {
         self.state = State::Over;
     }
 
-    /// The moment, in milliseconds since 1970-01-01T00:00:00Z, at which the peer has been quiet for too long.
+    /// The moment, in milliseconds since 1970-01-01T00:00:00Z, from which the peer has been silent for too long.
     pub(crate) fn quiet_until(&self) -> u64
         ensures { result ≡ quiet_until self.now }
     {
         self.last.milliseconds() + QUIET_LIMIT
     }
 
-    /// The moment, in milliseconds since 1970-01-01T00:00:00Z, at which the peer has been quiet for long enough to be
-    /// tested.
+    /// The moment, in milliseconds since 1970-01-01T00:00:00Z, from which the peer has been silent for long enough for
+    /// a test.
     pub(crate) fn test_moment(&self) -> u64
         ensures { result ≡ test_moment self.now }
     {

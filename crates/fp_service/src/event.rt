@@ -9,7 +9,7 @@ use fp_inap::Event;
 use fp_records::Destinations;
 
 impl Core {
-    /// An event, as a notification or not.
+    /// Handles an event, a notification or a request.
     #[tactic(auto, unfolding(crate::specs::Event::on_event))]
     pub(crate) fn on_event(
         &mut self,
@@ -26,7 +26,7 @@ impl Core {
         }
     }
 
-    /// An event of a call for which these destinations are left.
+    /// Handles an event of a call with these destinations left.
     #[tactic(auto, unfolding(crate::specs::Event::on_report))]
     fn on_report(
         &mut self,
@@ -46,7 +46,7 @@ impl Core {
         }
     }
 
-    /// The call goes on. A switch that waits gets Continue.
+    /// The call goes on. If the switch waits, it gets Continue.
     fn goes_on(&mut self, moment: Moment, notification: bool) -> Option<Request>
         ensures { (self.new, result) ≡ goes_on self.old moment notification }
     {

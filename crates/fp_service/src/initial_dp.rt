@@ -14,7 +14,7 @@ use fp_inap::OperationError;
 use fp_records::{Action, Destinations, Record};
 
 impl Core {
-    /// An InitialDP with this calling number, and what the table has for its called number.
+    /// Handles an InitialDP with this calling number, and the table's answer to its called number.
     #[tactic(auto, unfolding(crate::specs::InitialDp::on_initial_dp))]
     pub(crate) fn on_initial_dp(
         &mut self,
@@ -36,7 +36,7 @@ impl Core {
         }
     }
 
-    /// The InitialDP that begins a call.
+    /// Handles the InitialDP that begins a call.
     #[tactic(auto, unfolding(crate::specs::InitialDp::on_call))]
     fn on_call(
         &mut self,
@@ -65,7 +65,7 @@ impl Core {
         self.end_with(Components::one(error))
     }
 
-    /// The action of the rule that is chosen of a record.
+    /// Performs the action of the rule that the record chooses.
     #[tactic(auto, unfolding(crate::specs::InitialDp::by_rule))]
     fn by_record(
         &mut self,
@@ -81,7 +81,7 @@ impl Core {
         self.by_action(moment, rule.action)
     }
 
-    /// The action of a rule.
+    /// Performs the action of a rule.
     #[tactic(auto, unfolding(crate::specs::InitialDp::by_action))]
     fn by_action(&mut self, moment: Moment, action: Action) -> Option<Request>
         ensures { (self.new, result) ≡ by_action self.old moment action }
@@ -93,7 +93,7 @@ impl Core {
         }
     }
 
-    /// The only destination is connected, the first of several is tried.
+    /// Connects the only destination, or tries the first of several.
     fn by_destinations(&mut self, moment: Moment, destinations: &Destinations) -> Option<Request>
         ensures { (self.new, result) ≡ by_destinations self.old moment destinations.now (rest_of destinations.now) }
     {

@@ -7,7 +7,7 @@ use fp_digits::Cause;
 use fp_inap::Operation;
 use fp_records::Destination;
 
-/// An operation that a switch is asked to perform, with the contents of its argument.
+/// An operation for a switch to perform, with the contents of its argument.
 #[derive(Clone, Copy, Debug)]
 pub enum Instruction {
     /// Connect: the switch routes the call to this destination.

@@ -27,7 +27,7 @@ fn start(
 }
 
 impl Core {
-    /// A Continue message that invokes an operation; a user Abort if it finds no place.
+    /// A Continue message that invokes an operation; a user Abort if there is no place for it.
     #[tactic(auto, unfolding(crate::specs::Answer::instruct))]
     pub(crate) fn instruct(&mut self, moment: Moment, instruction: Instruction) -> Option<Request>
         ensures { (self.new, result) ≡ instruct self.old moment (instruction ∷ []) }
@@ -40,8 +40,8 @@ impl Core {
         self.continue_with(Components::one(invoke))
     }
 
-    /// A Continue message that invokes two operations; a user Abort if they don't both find a place. The second one
-    /// isn't RequestReportBCSMEvent.
+    /// A Continue message that invokes two operations; a user Abort if there aren't places for both. The second must
+    /// not be RequestReportBCSMEvent.
     #[tactic(auto, unfolding(crate::specs::Answer::instruct))]
     pub(crate) fn instruct_both(
         &mut self,

@@ -4,24 +4,24 @@ ghost use Rattle.fp_digits.specs.Exact.{IsExact};
 ghost use Rattle.fp_service.specs.Laws.{AsksOnceAtMost, BirthsStay, CutIsFront, FoldsGrow, FoldsGrowByOne, PeerEndsDialogue, StaysOver};
 ghost use Rattle.fp_service.specs.Same.{same_core};
 
-/// Along entries followed by others the core, the requests and the entries served are those of the first ones, and then
-/// those of the others from there.
+/// The core, the requests and the served entries of a list and a second one after it: the results of the first list,
+/// and then the results of the second one from there.
 pub fn folds_along_a_grown_list()
     ensures both { FoldsGrow }
     ensures one { FoldsGrowByOne }
 {}
 
-/// A dialogue that is over stays over, and nothing is requested.
+/// A dialogue that is over stays over, without requests.
 pub fn over_stays_over()
     ensures { StaysOver }
 {}
 
-/// After the peer ended or aborted a dialogue, it is over, and nothing is requested.
+/// After PeerEnd or PeerAbort a dialogue is over, without a request.
 pub fn peer_ends_dialogue()
     ensures { PeerEndsDialogue }
 {}
 
-/// The entries that are served are the first ones, up to the one that ends the dialogue.
+/// The served entries are the first ones of the list, up to the one that ends the dialogue.
 pub fn cut_is_a_front()
     ensures { CutIsFront }
 {}
@@ -31,7 +31,7 @@ pub fn entries_ask_once_at_most()
     ensures { AsksOnceAtMost }
 {}
 
-/// A step keeps the birth of a core, and so do all steps.
+/// All steps keep the birth of a core.
 pub fn births_stay()
     ensures { BirthsStay }
 {}

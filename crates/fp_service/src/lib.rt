@@ -1,18 +1,18 @@
 //! The service logic of a freephone dialogue: one step for each entry.
 //!
-//! The layer takes entries, which the messages of a dialogue and the clock bring, and returns requests: messages to be
-//! sent to the switch. It never asks the system for anything: moments and records come with the entries, and its values
-//! have a fixed size.
+//! This layer takes entries, from the messages of a dialogue and the clock, and returns requests: messages to send to
+//! the switch. It asks the system for nothing: moments and records are in the entries, and its values have a fixed
+//! size.
 //!
-//! * [`Core`] is what the logic knows of a dialogue between two entries, a value of fixed size that may be copied. Its
-//!   [`State`] is that the dialogue is over, or the [`Stage`] of its call.
+//! * [`Core`] is the state of the logic for one dialogue between two entries, a value of fixed size that may be copied.
+//!   Its [`State`] says that the dialogue is over, or has the [`Stage`] of its call.
 //! * [`step`] returns the core after an [`Entry`](fp_entry::Entry) and the [`Request`], if any: a message of the
 //!   dialogue (ITU-T Q.774, 3.2) with [`Components`], whose Invokes carry an [`Instruction`] for the switch (after
 //!   Q.1218).
 //!
-//! The step is this table; the first matching row applies. The rows and their order are those of the code (`step`, and
-//! the methods that begin with `on_`) and of `specs/Serve.antt`. Each entry except Clock sets the moment of the last
-//! entry, in any state. Fresh and Waiting are the stages of a dialogue that isn't over.
+//! The step is this table; the first matching row applies. The rows have the order of the code (`step`, and the methods
+//! that begin with `on_`) and of `specs/Serve.antt`. Each entry except Clock sets the moment of the last entry, in any
+//! state. Fresh and Waiting are the stages of a dialogue that isn't over.
 //!
 //! | State | Entry | Request |
 //! |---|---|---|
@@ -43,27 +43,28 @@
 //! | Waiting | Clock, no test is active, 120,000 ms or more after the last entry | Continue message with ActivityTest |
 //! | any | Clock otherwise | none |
 //!
-//! * Next destination, with a cause: if one is left, a Continue message with RequestReportBCSMEvent and with Connect to
-//!   the first, which is taken out, and the state is Waiting; else an End with ReleaseCall of that cause.
-//! * A Reject goes in a Continue message.
-//! * The rule is chosen by the calling number and the moment of the entry, and by the birth of the dialogue.
+//! * Next destination, with a cause: if one is left, the request is a Continue message with RequestReportBCSMEvent and
+//!   with Connect to the first, which is removed, and the state is Waiting. Otherwise it is an End with ReleaseCall of
+//!   that cause.
+//! * A Reject is sent in a Continue message.
+//! * The rule depends on the calling number, the moment of the entry, and the birth of the dialogue.
 //! * An End and an Abort end the dialogue: the state is Over.
-//! * Invokes in a Continue message are started as invocations, in order. There are eight places. If the Invokes don't
-//!   all find one, none is started and the request is a user Abort. Invokes in an End take the next identifiers and
-//!   start no invocation.
+//! * Invokes in a Continue message are started as invocations, in order. There are eight places. If there aren't enough
+//!   for all, none is started and the request is a user Abort. Invokes in an End take the next identifiers and start no
+//!   invocation. For example, the first Continue of a call has RequestReportBCSMEvent as 1 and Connect as 2.
 //! * A Clock first ends the invocations that are due.
-//! * A test is ended by its ReturnResultLast, ReturnError or Reject alone. Any other entry of the peer sets the moment
-//!   of the last entry and leaves the test active, and so does a ReturnResultNotLast.
+//! * Only its ReturnResultLast, ReturnError or Reject ends a test. Any other entry from the peer sets the moment of the
+//!   last entry and leaves the test active, also a ReturnResultNotLast.
 //! * In a dialogue whose opening is Known the first Continue or End carries the AARE that accepts it, and a user Abort
 //!   carries an ABRT.
 //!
 //! The layer above may rely on this: a step is `serve` of `specs/Serve.antt`, and `next` and `request_of` are its two
-//! parts. `serve` and the definitions below it stay folded unless a proof asks; no layer above should unfold them.
-//! Along the entries of a dialogue the core, the requests and the entries up to its end are the folds of
-//! `specs/Fold.antt`, whose laws ([`folds_along_a_grown_list`], [`over_stays_over`], [`peer_ends_dialogue`],
+//! parts. `serve` and the definitions below it stay folded unless a proof asks; you should never unfold them in a layer
+//! above. For all entries of a dialogue, the core, the requests and the entries up to its end are the folds of
+//! `specs/Fold.antt`. Their laws ([`folds_along_a_grown_list`], [`over_stays_over`], [`peer_ends_dialogue`],
 //! [`cut_is_a_front`], [`entries_ask_once_at_most`], [`births_stay`]) are all that the layers above use. Two cores are
 //! equal by `==` exactly if they are the same ([`equal_cores_are_the_same`]). [`Core::next_due`] is the earliest moment
-//! at which a Clock does something.
+//! when a Clock has an effect.
 #![tactic(auto)]
 
 mod answer;

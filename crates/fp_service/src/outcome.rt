@@ -23,7 +23,7 @@ fn is_of_test(class: Option<OperationClass>) -> bool
 }
 
 impl Core {
-    /// A ReturnResult, the last or not.
+    /// Handles a ReturnResult, the last or not.
     #[tactic(auto, unfolding(crate::specs::Outcome::on_outcome))]
     pub(crate) fn on_result(
         &mut self,
@@ -39,7 +39,7 @@ impl Core {
         self.by_outcome(stage, moment, identifier, outcome)
     }
 
-    /// A ReturnError.
+    /// Handles a ReturnError.
     #[tactic(auto, unfolding(crate::specs::Outcome::on_outcome))]
     pub(crate) fn on_error(
         &mut self,
@@ -54,7 +54,7 @@ impl Core {
         self.by_outcome(stage, moment, identifier, outcome)
     }
 
-    /// A Reject. One of a test has no effect beyond ending the test.
+    /// Handles a Reject. A Reject of a test ends the test and has no other effect.
     #[tactic(auto, unfolding(crate::specs::Outcome::on_reject, crate::specs::Outcome::on_outcome))]
     pub(crate) fn on_reject(
         &mut self,
@@ -73,7 +73,7 @@ impl Core {
         self.by_outcome(stage, moment, identifier, outcome)
     }
 
-    /// The request that follows from an outcome.
+    /// The request after an outcome.
     fn by_outcome(
         &mut self,
         stage: Stage,

@@ -3,19 +3,19 @@
 use crate::Components;
 use fp_apdu::Name;
 
-/// A message that the service logic requests to be sent to the peer of a dialogue (Q.774).
+/// A message that the service logic sends to the peer of a dialogue (Q.774).
 #[derive(Debug, Drop)]
 pub enum Request {
     /// A Continue.
     Continue {
-        /// The application context name of the AARE that accepts the dialogue, in the first answer alone.
+        /// The application context name of the AARE that accepts the dialogue, only in the first answer.
         acceptance: Option<Name>,
         /// The components.
         components: Components,
     },
     /// An End: the dialogue is over.
     End {
-        /// The application context name of the AARE that accepts the dialogue, in the first answer alone.
+        /// The application context name of the AARE that accepts the dialogue, only in the first answer.
         acceptance: Option<Name>,
         /// The components.
         components: Components,
@@ -27,12 +27,12 @@ pub enum Request {
 /// The dialogue portion of an Abort by the user (Q.773, 4.2.3).
 #[derive(Clone, Copy, Debug)]
 pub enum AbortPortion {
-    /// None, in a dialogue without application context.
+    /// No dialogue portion: the dialogue has no application context.
     Absent,
     /// An ABRT.
     Abrt,
-    /// An AARE that refuses this application context name: it isn't supported.
+    /// An AARE that refuses this application context name, as it isn't supported.
     NoName(Name),
-    /// An AARE that refuses the version: none is common. It has this application context name.
+    /// An AARE, with this application context name, that refuses the version, as none is common.
     NoVersion(Name),
 }

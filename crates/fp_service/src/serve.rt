@@ -10,8 +10,8 @@ use fp_entry::{Entry, EntryKind};
 use fp_q773::{InvokeProblem, Problem};
 use std::alloc::{AllocError, Global};
 
-/// The step of the service logic: the core after an entry, and the request. It is the table at the crate's root, and
-/// `serve` of `specs/Serve.antt`.
+/// The step of the service logic: the core after an entry, and the request. It follows the table at the crate's root,
+/// and is `serve` of `specs/Serve.antt`.
 ///
 /// Takes no memory, so it never returns the error.
 pub fn step(
@@ -29,8 +29,8 @@ pub fn step(
 }
 
 impl Core {
-    /// The step of the service logic in place: the core becomes that after an entry. Returns the request, as [`step`]
-    /// does. Takes no memory.
+    /// The step of the service logic in place: replaces the core by the one after an entry. Returns the request, as
+    /// [`step`] does. Takes no memory.
     #[tactic(auto, unfolding(crate::specs::Serve::serve))]
     pub fn step(&mut self, entry: &Entry) -> Option<Request>
         ensures { (self.new, result) ≡ serve self.old entry.now }
@@ -43,7 +43,7 @@ impl Core {
         }
     }
 
-    /// An entry of a dialogue that isn't over.
+    /// Handles an entry of a dialogue that isn't over.
     #[tactic(auto, unfolding(crate::specs::Serve::on_kind))]
     fn on_kind(&mut self, stage: Stage, moment: Moment, kind: &EntryKind) -> Option<Request>
         ensures { (self.new, result) ≡ on_kind stage self.old moment kind.now }
@@ -102,7 +102,7 @@ impl Core {
         }
     }
 
-    /// A Begin.
+    /// Handles a Begin.
     #[tactic(auto, unfolding(crate::specs::Serve::on_opening))]
     fn on_opening(&mut self, stage: Stage, opening: Opening) -> Option<Request>
         ensures { (self.new, result) ≡ on_opening stage self.old opening }
@@ -116,7 +116,7 @@ impl Core {
         }
     }
 
-    /// The dialogue is accepted, or refused by an Abort.
+    /// Accepts the dialogue, or refuses it by an Abort.
     fn by_opening(&mut self, opening: &Opening) -> Option<Request>
         ensures { (self.new, result) ≡ by_opening self.old opening.now }
     {
@@ -127,7 +127,7 @@ impl Core {
         }
     }
 
-    /// An Invoke with a linked identifier.
+    /// Rejects an Invoke with a linked identifier.
     #[tactic(auto, unfolding(crate::specs::Serve::reject_linked))]
     fn reject_linked(&mut self, identifier: i8, linked: i8) -> Option<Request>
         ensures { (self.new, result) ≡ reject_linked self.old identifier linked }

@@ -20,9 +20,9 @@ pub enum State {
 pub enum Stage {
     /// The dialogue has begun, and no destination was tried yet.
     Fresh,
-    /// A destination was tried, and the switch reports how that goes.
+    /// A destination was tried, and the switch reports the progress of the call.
     Waiting {
-        /// The destinations that weren't tried yet, in the order in which they are tried; `None` if none is left.
+        /// The destinations that weren't tried yet, in their order; `None` if none is left.
         left: Option<Destinations>,
     },
 }
@@ -39,7 +39,7 @@ impl State {
         }
     }
 
-    /// Whether the dialogue has a call whose destinations are tried.
+    /// Whether the dialogue has a call that tries its destinations.
     pub(crate) fn is_waiting(&self) -> bool
         ensures { result ≡ is_waiting self.now }
     {

@@ -9,21 +9,21 @@ use std::alloc::{AllocError, Global};
 use std::collections::VecDeque;
 use std::marker::Model;
 
-/// 2^29: how far the identifiers of two links that follow each other are apart.
+/// 2^29: the distance between the identifiers of two consecutive links.
 const LINK_STEP: u32 = 0x2000_0000;
 
-/// 2^17: how far those of two tags that follow each other are apart.
+/// 2^17: the distance between the identifiers of two consecutive tags.
 const TAG_STEP: u32 = 0x2_0000;
 
-/// The local identifiers of one link in one run. Contracts see the link, the tag of the run, and the queue of the serials
-/// that may be given, the next one first.
+/// The local identifiers of one link in one run. Contracts see the link, the tag of the run, and the queue of the
+/// serials that may be given, the next one first.
 #[derive(Debug, Drop)]
 pub struct LocalIds {
     link: u8,
     tag: u16,
-    // How many serials were given for the first time: those from 1 on. The others are the front of the queue.
+    // How many serials were given for the first time: 1 to `fresh`. The others are the front of the queue.
     fresh: u32,
-    // The serials that came back, the oldest first: the rest of the queue.
+    // The serials that were put back, the oldest first: the rest of the queue.
     returned: VecDeque<u32>,
 }
 
@@ -40,7 +40,7 @@ impl Model for LocalIds {
     ghost invariant = { λ own. IsKept own.link own.tag own.fresh own.returned.items (deque_capacity own.returned) };
 }
 
-/// What the serials of a link, 0 to 7, and a tag, 0 to 4,094, are added to.
+/// The base of a link, 0 to 7, and a tag, 0 to 4,094: an identifier is the base and a serial.
 fn base_of(link: u8, tag: u16) -> u32
     requires links { link < LocalIds.LINKS }
     requires tags { tag ≤ LocalIds.LAST_TAG }
@@ -50,14 +50,14 @@ fn base_of(link: u8, tag: u16) -> u32
     u32::from(link) * LINK_STEP + u32::from(tag) * TAG_STEP
 }
 
-/// The serial that came back first, if one did.
+/// The serial that was put back first, if there is one.
 fn first(returned: &VecDeque<u32>) -> Option<u32>
     ensures { result ≡ slice_get returned.now.items 0 }
 {
     returned.front().copied()
 }
 
-/// Puts a serial after those that came back. There is a place for it. Takes no memory.
+/// Puts a serial after the others that were put back. There must be a place for it. Takes no memory.
 fn put_last(returned: &mut VecDeque<u32>, serial: u32)
     requires { deque_len returned.old < deque_capacity returned.old }
     ensures items { returned.new.items ≡ returned.old.items ++ serial ∷ [] }
@@ -67,17 +67,17 @@ fn put_last(returned: &mut VecDeque<u32>, serial: u32)
 }
 
 impl LocalIds {
-    /// How many links there may be.
+    /// The number of links.
     pub const LINKS: u8 = 8;
 
-    /// How many serials a link has: 1 to 131,072.
+    /// The number of serials of a link: 1 to 131,072.
     pub const SERIALS: u32 = 131_072;
 
     /// The last tag.
     pub const LAST_TAG: u16 = 4_094;
 
-    /// Those of a link, 0 to 7, in a run without a tag: its tag is 0. None was given yet, and there is memory for all
-    /// that may come back.
+    /// The identifiers of a link, 0 to 7, in a run without a tag: its tag is 0. No identifier was given yet, and memory
+    /// for all serials that may be put back is taken.
     pub fn new(alloc: Global, link: u8) -> Result<LocalIds, AllocError>
         requires { link < Self.LINKS }
         ensures { IfOk result (λ ids. ids ≡ record { link = link; tag = 0; queue = all_serials }) }
@@ -85,8 +85,8 @@ impl LocalIds {
         Self::with_tag(alloc, link, 0)
     }
 
-    /// Those of a link, 0 to 7, in a run with this tag, 0 to 4,094. None was given yet, and there is memory for all that
-    /// may come back.
+    /// The identifiers of a link, 0 to 7, in a run with this tag, 0 to 4,094. No identifier was given yet, and memory
+    /// for all serials that may be put back is taken.
     pub fn with_tag(alloc: Global, link: u8, tag: u16) -> Result<LocalIds, AllocError>
         requires links { link < Self.LINKS }
         requires tags { tag ≤ Self.LAST_TAG }
@@ -100,8 +100,7 @@ impl LocalIds {
         })
     }
 
-    /// What [`LocalIds::give`] gives next: the identifier of the front serial, `None` if there is none. Takes no
-    /// memory.
+    /// The identifier that [`LocalIds::give`] gives next, the front serial's. `None` if there is none. Takes no memory.
     pub fn next(&self) -> Option<u32>
         ensures { result ≡ next_of self.now }
     {
@@ -131,9 +130,9 @@ impl LocalIds {
         Some(base + serial)
     }
 
-    /// The dialogue of this identifier is held no longer: its serial comes back, after all others. The identifier is
-    /// one of this very link and tag, it was given, and its serial didn't come back yet: the caller knows that, and
-    /// nothing tests it here. Takes no memory.
+    /// Puts the serial of this identifier after all others: its dialogue is held no longer. The identifier must be of
+    /// this very link and tag, it must have been given, and its serial not put back since: you know that, and nothing
+    /// tests it here. Takes no memory.
     pub fn end(&mut self, local: u32)
         requires { IsGiven self.old local }
         ensures { self.new ≡ with_returned self.old local }

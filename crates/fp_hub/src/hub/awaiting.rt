@@ -1,4 +1,4 @@
-//! Calls of a hub that wait: for room, for quiet, or for what is sent next.
+//! Calls of a hub that wait: for room, for quiet, or for a parcel to send.
 
 use super::take_mark;
 use crate::hold::Hold;
@@ -12,12 +12,12 @@ use std::sync::atomic::Ordering;
 use std::sync::ledger::Ledger;
 use std::time::{Duration, Instant};
 
-/// How many seconds a thread that awaits room sleeps at most before it looks again.
+/// The longest sleep of a thread that awaits room, in seconds, before it looks again.
 const SECONDS_FOR_ROOM: u64 = 1;
 
 impl<A: Ledger, B: Ledger, C: Ledger> Hub<A, B, C> {
-    /// Waits until this message isn't held back any more, or, if there is none, until the book is quiet; or until the link
-    /// is down. `false`: that isn't so after this time, if there is one.
+    /// Waits until this message isn't held back any more, or, if there is none, until the book is quiet; or until the
+    /// link is down. `false` if the time `most`, if there is one, went by first.
     fn await_calls<R: Wait + Clock>(
         &self,
         rt: &R,
@@ -51,12 +51,12 @@ impl<A: Ledger, B: Ledger, C: Ledger> Hub<A, B, C> {
     /// Waits until this message isn't held back any more, or the link is down. It looks under the lock before each
     /// sleep, and again each second. Each call that gives or puts back a turn, hands out or reports a parcel, or takes
     /// the link down wakes it, so it misses none of them. A post, which may also make room, doesn't: only the thread
-    /// that posts awaits room. A caller that held a turn or a parcel meanwhile might wait for itself.
+    /// that posts awaits room. You must not hold a turn or a parcel meanwhile: the call might wait for it.
     pub fn await_room<R: Wait + Clock>(&self, rt: &R, came: &Prepared) {
         self.await_calls(rt, Some(came), None);
     }
 
-    /// Waits as [`Hub::await_room`], at most for this time. `false`: the message is still held back.
+    /// Waits as [`Hub::await_room`], at most for this time. `false` if the message is still held back.
     pub fn await_room_within<R: Wait + Clock>(
         &self,
         rt: &R,
@@ -66,13 +66,13 @@ impl<A: Ledger, B: Ledger, C: Ledger> Hub<A, B, C> {
         self.await_calls(rt, Some(came), Some(most))
     }
 
-    /// Waits until the book is quiet or the link is down, and says so; at most for this time. It is woken as
+    /// Waits until the book is quiet or the link is down, at most for this time. Returns whether it is. It is woken as
     /// [`Hub::await_room`] is.
     pub fn await_quiet<R: Wait + Clock>(&self, rt: &R, most: Duration) -> bool {
         self.await_calls(rt, None, Some(most))
     }
 
-    /// Waits until there is something to be sent, and hands it out. `None`: the link is down. Before that it hints as
+    /// Waits until there is a parcel to send, and hands it out. `None` if the link is down. Before that it hints as
     /// [`Hub::hint_after_no_room`].
     pub fn await_parcel<R: Wait>(&self, rt: &R) -> Option<Parcel> {
         self.hint_after_no_room(rt);
@@ -96,8 +96,8 @@ impl<A: Ledger, B: Ledger, C: Ledger> Hub<A, B, C> {
         unreachable!()
     }
 
-    /// Hands out what is sent next, and releases the lock. `None`: the link is down. `Err`: nothing is to be sent, and the
-    /// lock is still held.
+    /// Hands out the next parcel, and releases the lock. `None` if the link is down. `Err` if there is no parcel to
+    /// send, with the lock still held.
     fn hand_out<'x>(&self, hold: Hold<'x, A, B, C>) -> Result<Option<Parcel>, Hold<'x, A, B, C>> {
         let mut hold = hold;
         match hold.kept.next() {

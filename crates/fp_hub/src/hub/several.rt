@@ -14,9 +14,9 @@ use std::sync::atomic::Ordering;
 use std::sync::ledger::Ledger;
 
 impl<A: Ledger, B: Ledger, C: Ledger> Hub<A, B, C> {
-    /// Posts messages from the front of a list in their order, as [`Kept::post_front`]: 64 at most, and none from the
-    /// first on that is held back. The others stay in the list. `true`: an Abort of the provider answers one of them,
-    /// of which the sending thread doesn't know: [`Hub::tell_sender`] wakes it.
+    /// Posts messages from the front of a list in their order, as [`Kept::post_front`]: at most 64, and none from the
+    /// first one on that is held back. The others stay in the list. `true` if an Abort of the provider answers one of
+    /// them: then you must wake the sending thread by [`Hub::tell_sender`].
     pub fn post_front<R: Wait>(
         &self,
         rt: &R,
@@ -29,10 +29,10 @@ impl<A: Ledger, B: Ledger, C: Ledger> Hub<A, B, C> {
         self.hold(rt).kept.post_front(alloc, seat, came)
     }
 
-    /// Takes back the turns of a list, 32 at most, and then hands out others, which are put at its end, as
-    /// [`Kept::give_and_take`]: the share of one of this number of workers, `most` turns at most. The sending thread
-    /// isn't woken for frames that were queued: [`Hub::tell_sender`] does that. After a take that finds no place for a
-    /// frame a worker is hinted when a parcel is awaited next.
+    /// Takes back the turns of a list, at most 32, and then hands out others, which are put at its end, as
+    /// [`Kept::give_and_take`]: the share of one of this number of workers, at most `most` turns. You must wake the
+    /// sending thread for frames that were queued, by [`Hub::tell_sender`]. After a take that finds no place for a
+    /// frame, the next wait for a parcel hints to a worker.
     pub fn give_and_take<R: Wait>(
         &self,
         rt: &R,
@@ -57,9 +57,9 @@ impl<A: Ledger, B: Ledger, C: Ledger> Hub<A, B, C> {
         worked
     }
 
-    /// Serves turns in their places, `most` at most and 32 at most, as [`Kept::serve_front`]. The sending thread isn't
-    /// woken for frames that were queued: [`Hub::tell_sender`] does that. If a turn finds no place for a frame, a worker
-    /// is hinted when a parcel is awaited next.
+    /// Serves turns in their places, at most `most` and at most 32, as [`Kept::serve_front`]. You must wake the sending
+    /// thread for frames that were queued, by [`Hub::tell_sender`]. If a turn finds no place for a frame, the next wait
+    /// for a parcel hints to a worker.
     pub fn serve_front<R: Wait>(&self, rt: &R, seat: &mut Seat<A, B, C>, most: usize) -> Worked
         ensures same { seat.new ≡ record seat.old { served = seat.new.served } }
         ensures grows { seat.old.served ≤ seat.new.served }
@@ -73,9 +73,9 @@ impl<A: Ledger, B: Ledger, C: Ledger> Hub<A, B, C> {
         worked
     }
 
-    /// Takes back the parcel that was sent, and then hands out what is sent next, as [`Kept::sent_and_next`]: the seat
-    /// grows as by [`Hub::sent`]. A stale or foreign parcel comes back; the caller has to spend it, as by
-    /// [`Parcel::abandon`]. Takes no memory.
+    /// Takes back the parcel that was sent, and then hands out the next one, as [`Kept::sent_and_next`]: the seat grows
+    /// as by [`Hub::sent`]. A stale or foreign parcel is returned; you must spend it, as by [`Parcel::abandon`]. Takes
+    /// no memory.
     pub fn sent_and_next<R: Wait>(
         &self,
         rt: &R,

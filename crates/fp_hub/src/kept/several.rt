@@ -16,10 +16,10 @@ use std::alloc::Global;
 use std::collections::VecDeque;
 use std::sync::ledger::Ledger;
 
-/// How many messages are posted in one hold at most.
+/// The most messages that are posted in one hold.
 const MOST_POSTS: usize = 64;
 
-/// How many turns come back in one hold at most.
+/// The most turns that are taken back, handed out or served in one hold.
 pub(crate) const MOST_TURNS: usize = 32;
 
 /// Whether an Abort of the provider answers a message.
@@ -37,9 +37,9 @@ fn is_queued(given: Given) -> bool
 }
 
 impl<A: Ledger, B: Ledger, C: Ledger> Kept<A, B, C> {
-    /// Posts messages from the front of a list in their order, each as [`Kept::post_unless_held_back`]: 64 at most, and
-    /// none from the first on that is held back. That one goes back to the front, for which the list has room, and the
-    /// others stay in the list. Returns whether an Abort of the provider answers one of them.
+    /// Posts messages from the front of a list in their order, each as [`Kept::post_unless_held_back`]: at most 64, and
+    /// none from the first one on that is held back. That one is put back at the front, where the list has room for it,
+    /// and the others stay in the list. Returns whether an Abort of the provider answers one of them.
     pub fn post_front(
         &mut self,
         alloc: Global,
@@ -67,7 +67,7 @@ impl<A: Ledger, B: Ledger, C: Ledger> Kept<A, B, C> {
         has_aborted
     }
 
-    /// Takes back a turn, as [`Kept::give`] if it was served and else as [`Kept::put_back`]. A stale or foreign one is
+    /// Takes back a turn, as [`Kept::give`] if it was served and else as [`Kept::put_back`]. A stale or foreign turn is
     /// abandoned. Returns whether the frame of its request was queued.
     fn return_one(&mut self, seat: &mut Seat<A, B, C>, work: Work) -> bool
         ensures returns { ReturnsIn self.old self.new work seat.old seat.new result }
@@ -90,7 +90,7 @@ impl<A: Ledger, B: Ledger, C: Ledger> Kept<A, B, C> {
         }
     }
 
-    /// Takes back turns from the front of a list in their order, 32 at most: those that were served as [`Kept::give`],
+    /// Takes back turns from the front of a list in their order, at most 32: those that were served as [`Kept::give`],
     /// the others as [`Kept::put_back`]. Stale or foreign ones are abandoned. Returns whether the frame of a request
     /// was queued.
     pub fn return_front(&mut self, seat: &mut Seat<A, B, C>, work: &mut VecDeque<Work>) -> bool
@@ -112,8 +112,8 @@ impl<A: Ledger, B: Ledger, C: Ledger> Kept<A, B, C> {
     }
 
     /// Takes turns as [`Kept::take`], and puts them at the end of a list, as far as that has room: the share that one
-    /// of this number of workers has of the dialogues that are ready, at least one turn, and at most `most`, nor more
-    /// than 32.
+    /// of this number of workers has of the ready dialogues. It is at least one turn, and at most `most` and 32. For
+    /// example, with 3 workers, 20 ready dialogues and a `most` of 32 it is 6 turns.
     pub fn take_share(&mut self, workers: usize, most: usize, work: &mut VecDeque<Work>) -> Stopped
         ensures takes { TakesTurns self.old self.new work.old.items work.new.items
             (share (length self.old.ready) workers most) (deque_capacity work.old) result }
@@ -159,8 +159,8 @@ impl<A: Ledger, B: Ledger, C: Ledger> Kept<A, B, C> {
         }
     }
 
-    /// Serves a turn in its place, as [`Kept::serve`], and says whether a frame of its requests was queued; or why none
-    /// was served, and then nothing changes.
+    /// Serves a turn in its place, as [`Kept::serve`], and returns whether a frame of its requests was queued; or why
+    /// none was served, and then nothing changes.
     fn serve_one(&mut self, seat: &mut Seat<A, B, C>) -> Result<bool, Stopped>
         ensures ok { IfOk result (λ queued. ServesIn self.old self.new seat.old seat.new queued) }
         ensures err { IfErr result (λ stopped. ServesNone stopped self.old self.new seat.old seat.new) }
@@ -174,7 +174,7 @@ impl<A: Ledger, B: Ledger, C: Ledger> Kept<A, B, C> {
         }
     }
 
-    /// Serves turns in their places, this number of them at most. Sets `has_queued` if a frame of their requests was
+    /// Serves turns in their places, at most this number of them. Sets `has_queued` if a frame of their requests was
     /// queued. Returns why no more were served.
     fn serve_some(
         &mut self,
@@ -196,8 +196,8 @@ impl<A: Ledger, B: Ledger, C: Ledger> Kept<A, B, C> {
         Stopped::Enough
     }
 
-    /// Serves turns in their places, each as [`Kept::serve`], as long as a dialogue is ready: `most` at most, and 32 at
-    /// most.
+    /// Serves turns in their places, each as [`Kept::serve`], as long as a dialogue is ready: at most `most`, and at
+    /// most 32.
     pub fn serve_front(&mut self, seat: &mut Seat<A, B, C>, most: usize) -> Worked
         ensures serves { ServesTurns self.old self.new seat.old seat.new most result }
         ensures sound { Sound self.new }
@@ -213,7 +213,7 @@ impl<A: Ledger, B: Ledger, C: Ledger> Kept<A, B, C> {
         }
     }
 
-    /// Takes back the parcel that was sent, as [`Kept::sent`], and then hands out what is sent next, unless the link is
+    /// Takes back the parcel that was sent, as [`Kept::sent`], and then hands out the next one, unless the link is
     /// down.
     pub fn sent_and_next(&mut self, seat: &mut Seat<A, B, C>, parcel: Parcel) -> SentAndNext
         ensures sends { SendsAndFinds self.old parcel result.sent result.next self.new }
