@@ -1,4 +1,4 @@
-//! One line after another, at its moment.
+//! A link that answers one line after another, each at its moment.
 
 ghost use Rattle.std.specs.Prelude.{◌≡◌, ◌≤◌, ◌+◌, nat_lt, IfOk, if◌then◌else◌, option_map, Some, None};
 ghost use Rattle.fp_ask.specs.proof_only.Answering.{IsAt, Taking};
@@ -23,7 +23,7 @@ pub(crate) struct Answerer {
 }
 
 impl Answerer {
-    /// A link to which nothing came yet, in a run with this tag.
+    /// A link without messages yet, in a run with this tag.
     pub(crate) fn new(alloc: Global, tag: u16, moment: Moment) -> Result<Answerer, AllocError>
         requires { tag ≤ LocalIds.LAST_TAG }
         ensures { IfOk result (IsAt (at_start (base_of 0 tag) moment)) }

@@ -19,7 +19,7 @@ use fp_records::Table;
 use fp_streams::{LinkRead, LinkWrite, TakesLine, follow_lines, line_feeds_end_lines};
 use std::alloc::Global;
 
-/// A link, what its lines are answered from, and the writer of the answers.
+/// A link, the records and names that its lines are answered from, and the writer of the answers.
 pub(crate) struct Answering<'a, W> {
     pub(crate) alloc: Global,
     pub(crate) table: &'a Table,
@@ -37,7 +37,7 @@ impl<W: LinkWrite> TakesLine for Answering<'_, W> {
     ghost refuses = { λ old has_line_feed line refusal new.
         RefusesOne (seen W.contents W.failures old) line refusal (seen W.contents W.failures new) };
 
-    /// Writes what is sent for a line, and flushes it.
+    /// Writes the frames that are sent for a line, and flushes them.
     fn take_line(&mut self, line: &[u8], _has_line_feed: bool) -> Result<(), Refusal> {
         let taken = self
             .answerer
@@ -50,8 +50,7 @@ impl<W: LinkWrite> TakesLine for Answering<'_, W> {
 }
 
 impl<W: LinkWrite> Answering<'_, W> {
-    /// Answers each line of an input of which nothing was read, on a link to which nothing came before this moment, in a
-    /// run with this tag.
+    /// Answers each line of an unread input, on a link without messages before this moment, in a run with this tag.
     pub(crate) fn answer_lines<R: LinkRead>(
         &mut self,
         tag: u16,

@@ -1,4 +1,4 @@
-//! A book, driven until nothing waits.
+//! A book, driven until no entry and no frame waits.
 
 ghost use Rattle.std.specs.Prelude.{◌≡◌, [], ◌∷◌, ◌++◌, IfOk, OnOk};
 ghost use Rattle.fp_ask.specs.Tied.{Rest};
@@ -45,7 +45,7 @@ fn push_copy(alloc: Global, frames: &mut Vec<SentFrame>, octets: &[u8]) -> Resul
     Ok(())
 }
 
-/// Sends what waits, until nothing does.
+/// Sends the waiting frames, until none waits.
 pub(crate) fn send_waiting(alloc: Global, book: &mut Book) -> Result<Vec<SentFrame>, AllocError>
     requires served { IsServed book.old }
     ensures rest { OnOk result (Rest book.new) }

@@ -20,13 +20,14 @@ use std::alloc::Global;
 /// Answers each line of an input, in their order.
 ///
 /// `moment` is the moment of the first line. A line is the hexadecimal text of one message, 1 to 4,096 octets in digits
-/// of either case, or `+` and 1 to 13 decimal digits, which advances the clock by that many milliseconds. It ends at a
-/// line feed; the last one can end at the end of the input instead. Each message that is sent is a line: its
-/// hexadecimal text in upper case. At most `most_reads` reads are made, of up to 4,096 octets each.
+/// of either case, or `+` and 1 to 13 decimal digits, which advances the clock by that many milliseconds. For example,
+/// `+1500` waits a second and a half. It ends at a line feed; the last one can end at the end of the input instead.
+/// Each message that is sent is a line: its hexadecimal text in upper case. At most `most_reads` reads are made, of up
+/// to 4,096 octets each.
 ///
 /// The first fault ends the run. If a line is bad, the reader failed or the limit on reads was reached, the lines
-/// before were answered; if memory ran out or the writer failed, a prefix of the answers was written. No clause says,
-/// and cases show, that the answers to a line are written and flushed before the next line is read.
+/// before were answered; if memory ran out or the writer failed, a prefix of the answers was written. The answers to a
+/// line are written and flushed before the next line is read; cases show this, no clause says it.
 ///
 /// The run has no tag: the identifier of a dialogue is its serial. [`ask_with_tag`] has one.
 pub fn ask<R: LinkRead, W: LinkWrite>(
@@ -54,8 +55,8 @@ pub fn ask<R: LinkRead, W: LinkWrite>(
     )
 }
 
-/// As [`ask`], in a run with this tag, 0 to 4,094: the identifier of a dialogue is the sum of the tag times 2^17 and its
-/// serial.
+/// As [`ask`], in a run with this tag, 0 to 4,094: the identifier of a dialogue is the tag times 2^17, plus its serial.
+/// For example, serial 1 with the tag 3 is 00060001 in hexadecimal digits.
 pub fn ask_with_tag<R: LinkRead, W: LinkWrite>(
     alloc: Global,
     table: &Table,

@@ -1,23 +1,23 @@
-//! One message after another: a book is handed messages and moments, and all that each of them brings is served and
-//! sent before the next one comes.
+//! One message after another: a book is handed messages and moments. For each of them all entries are served and all
+//! frames sent before the next one.
 //!
 //! The layer is handed the records, the names of application contexts, the tag of the run, a moment, a reader and a
 //! writer, and asks the system for nothing but memory.
 //!
-//! * [`ask_with_tag`] answers the lines of a reader: it reads its lines with `fp_streams::follow_lines`. [`ask`] does so
-//!   in a run without a tag.
+//! * [`ask_with_tag`] answers the lines of a reader: it reads its lines with `fp_streams::follow_lines`. [`ask`] does
+//!   so in a run without a tag.
 //! * [`Session`] is the link: [`Session::post`] takes a message that was prepared, and [`Session::tick`] a moment.
 //! * [`SentFrame`] is a frame that was sent, with its head.
 //!
 //! Turns and parcels of the book never leave one call. If memory runs out while a message is posted, the receipt of the
 //! book says so. The log of the book is emptied after each call, and nobody reads it.
 //!
-//! The layer above may rely on this: what is sent is what `post` and `tick` of `specs/Solo.antt` say, a definition over
-//! a plain list of dialogues and the serials that may be given to the next ones, which knows no entry that waits, no
-//! turn and no position. What [`ask_with_tag`] writes is what `specs/Lines.antt` has for the lines of its input, one
-//! after another. Which reads were made is known one by one (`specs/Asked.antt`). A session's clauses hold for every
-//! list that describes it before (`specs/Tied.antt`), and say that the list goes on to describe it after; at the
-//! beginning the empty one does. After an error no clause speaks of a session.
+//! The layer above may rely on this: the frames sent are those of `post` and `tick` of `specs/Solo.antt`, a definition
+//! over a plain list of dialogues and the serials that may be given to the next ones. It knows no waiting entry, no
+//! turn and no position. The text that [`ask_with_tag`] writes is the one of `specs/Lines.antt` for the lines of its
+//! input, one after another. `specs/Asked.antt` states which reads were made, one by one. A session's clauses hold for
+//! every list that describes it before (`specs/Tied.antt`), and say that the list still describes it after; at the
+//! beginning the empty list does. After an error no clause speaks of a session.
 #![tactic(auto)]
 
 mod answerer;

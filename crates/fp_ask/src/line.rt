@@ -1,4 +1,4 @@
-//! What one line of the input says.
+//! One line of the input.
 
 ghost use Rattle.std.specs.Prelude.{◌≡◌, IfOk, IfSome, length, option_map};
 ghost use Rattle.fp_frames.specs.Frame.{IsMessageLength};
@@ -10,12 +10,12 @@ use fp_frames::Frame;
 use hex::FromHexError;
 use std::alloc::{AllocError, Global};
 
-/// What a line says.
+/// The content of a line.
 #[derive(Debug, Drop)]
 pub(crate) enum Line {
-    /// A message comes.
+    /// A message to post.
     Message(Frame),
-    /// This many milliseconds pass.
+    /// A wait of this many milliseconds.
     Wait(u64),
 }
 
@@ -25,7 +25,7 @@ pub(crate) const MOST: usize = 8192;
 /// The most digits of a wait.
 const MOST_WAIT_DIGITS: usize = 13;
 
-/// What a line says, or `None` for a bad line.
+/// The content of a line, or `None` for a bad line.
 ///
 /// `text` is the line without its line feed. It is a message if it is the hexadecimal text of 1 to 4,096 octets, in
 /// digits of either case, and a wait if it is `+` and 1 to 13 decimal digits.
@@ -45,7 +45,7 @@ pub(crate) fn line_of(alloc: Global, text: &[u8]) -> Result<Option<Line>, AllocE
     }
 }
 
-/// The number that 1 to 13 decimal digits write.
+/// The value of 1 to 13 decimal digits.
 #[tactic(auto, using(crate::proofs::Waits::waits))]
 fn milliseconds_in(digits: &[u8]) -> Option<u64>
     ensures { result ≡ wait_in digits.now }

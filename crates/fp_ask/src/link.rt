@@ -1,4 +1,4 @@
-//! A link on which nothing waits.
+//! A link without waiting entries or frames.
 
 ghost use Rattle.std.specs.Prelude.{◌≡◌, ◌≤◌, true, IfOk, OnOk};
 ghost use Rattle.fp_ask.specs.Solo.{at_first, is_read, post, tick};
@@ -13,7 +13,7 @@ use fp_tids::LocalIds;
 use std::alloc::{AllocError, Global};
 use std::marker::Model;
 
-/// A link on which nothing waits, until memory runs out. Contracts see it as its book, or as none from then on.
+/// A link on which no entry and no frame waits, until memory runs out. Contracts see its book, or none from then on.
 #[derive(Drop)]
 pub(crate) struct Link {
     session: Option<Session>,
@@ -38,7 +38,7 @@ impl Model for Link {
 }
 
 impl Link {
-    /// A link to which nothing came yet, in a run with this tag.
+    /// A link without messages yet, in a run with this tag.
     pub(crate) fn new(alloc: Global, tag: u16) -> Result<Link, AllocError>
         requires { tag ≤ LocalIds.LAST_TAG }
         ensures { IfOk result (Tells (at_first (base_of 0 tag))) }

@@ -11,7 +11,7 @@ use std::alloc::AllocError;
 /// Why a line isn't answered.
 #[derive(Clone, Copy, Debug)]
 pub(crate) enum Refusal {
-    /// It is no message and no wait, or waits past the last moment.
+    /// A line that is no message and no wait, or waits past the last moment.
     BadLine,
     /// The writer failed.
     WriteFault,
@@ -27,7 +27,7 @@ impl From<AllocError> for Refusal {
     }
 }
 
-/// The result of `ask`, from that of `follow_lines`.
+/// The result of `ask`, from the result of `follow_lines`.
 pub(crate) fn asked(followed: Result<(), LinesFault<Refusal>>) -> Result<(), AskFault>
     ensures { result ≡ asked_of followed }
 {

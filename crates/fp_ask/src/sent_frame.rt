@@ -5,7 +5,7 @@ ghost use Rattle.std.specs.Prelude.{◌≡◌, IfOk, drop};
 use std::alloc::{AllocError, Global};
 use std::marker::Model;
 
-/// A frame that was sent: its octets, the head first. Contracts see them as their list.
+/// A frame that was sent: its octets, the head first. Contracts see their list.
 #[derive(Debug, Drop)]
 pub struct SentFrame {
     octets: Vec<u8>,

@@ -16,8 +16,8 @@ use fp_tids::LocalIds;
 use std::alloc::{AllocError, Global};
 use std::marker::Model;
 
-/// A link to which messages and moments come one after another: what one of them brings is served and sent before the
-/// next one comes. Contracts see it as its book.
+/// A link that takes messages and moments one after another: for each of them all entries are served and all frames
+/// sent before the next one. Contracts see its book.
 #[derive(Debug, Drop)]
 pub struct Session {
     book: Book,
@@ -49,8 +49,8 @@ fn was_read(came: &Prepared) -> bool
     !matches!(came, Prepared::Lost { .. })
 }
 
-/// Drops the log lines, so that the log keeps no message. A call can add more lines than `lines` has room for. It
-/// allocates nothing.
+/// Drops the log lines, so that the log keeps no message. A call can add more lines than `lines` has room for. Takes no
+/// memory.
 fn clear_log(book: &mut Book, lines: &mut Vec<Line>)
     requires { 0 < vec_capacity lines.old }
     ensures book { book.new ≡ record book.old { log = [] } }
@@ -70,7 +70,7 @@ impl Session {
     /// The number of log lines that are drained at a time.
     const LINES: usize = 64;
 
-    /// A session to which nothing came yet, in a run with this tag, 0 to 4,094; 0 is none.
+    /// A session without messages yet, in a run with this tag, 0 to 4,094; 0 for a run without one.
     pub fn new(alloc: Global, tag: u16) -> Result<Session, AllocError>
         requires { tag ≤ LocalIds.LAST_TAG }
         ensures rest { IfOk result Rest }
@@ -83,7 +83,7 @@ impl Session {
     }
 
     /// Takes a message, and returns the frames that are sent for it. If memory runs out, or ran out when the message
-    /// was read, no clause speaks of the session after that.
+    /// was read, no clause speaks of the session after that, and you must not use it again.
     pub fn post(&mut self, alloc: Global, came: Prepared) -> Result<Vec<SentFrame>, AllocError>
         requires rest { Rest self.old }
         ensures rest { OnOk result (Rest self.new) }
@@ -102,7 +102,7 @@ impl Session {
     }
 
     /// Moves the clock to this moment, and returns the frames that are sent then. If memory runs out, no clause speaks
-    /// of the session after that.
+    /// of the session after that, and you must not use it again.
     pub fn tick(&mut self, alloc: Global, moment: Moment) -> Result<Vec<SentFrame>, AllocError>
         requires rest { Rest self.old }
         ensures rest { OnOk result (Rest self.new) }
@@ -115,7 +115,7 @@ impl Session {
         self.serve_and_send(alloc)
     }
 
-    /// Serves and sends what waits, and drops the log lines.
+    /// Serves the waiting entries, sends the waiting frames, and drops the log lines.
     fn serve_and_send(&mut self, alloc: Global) -> Result<Vec<SentFrame>, AllocError>
         requires fit { Fit self.old }
         ensures rest { OnOk result (Rest self.new) }

@@ -9,14 +9,13 @@ use fp_replay::write_step_line;
 use std::alloc::{AllocError, Global};
 use std::marker::Model;
 
-/// The lines of a link that its book handed out by an exchange, and whose text isn't made. Contracts see the list of
-/// these lines.
+/// Lines of a link that its book handed out by an exchange, and that have no text yet. Contracts see their list.
 #[derive(Drop)]
 pub(crate) struct ExchangedLines {
     // The link, and its steps.
     link: u8,
     log: Log,
-    // How many of them have their text.
+    // How many of the steps have their text.
     made: usize,
 }
 
@@ -32,8 +31,8 @@ impl Model for ExchangedLines {
     ghost invariant = { λ lines. lines.made ≤ length lines.log };
 }
 
-/// Adds the text of the steps of this link from a place on, while there are fewer than `most` octets. Moves the place
-/// on.
+/// Adds the text of the steps of this link from the place `made` on, while the text has fewer than `most` octets, and
+/// moves the place on.
 fn add_steps(
     link: u8,
     log: &Log,
@@ -77,7 +76,7 @@ fn drop_made(log: &mut Log, made: &mut usize)
 }
 
 impl ExchangedLines {
-    /// No line. There is room for all that the book of a link may have.
+    /// An empty list. There is room for all lines that the book of a link may have.
     pub(crate) fn new(alloc: Global) -> Result<ExchangedLines, AllocError>
         ensures { IfOk result (λ lines. lines ≡ []) }
     {
@@ -88,7 +87,7 @@ impl ExchangedLines {
         })
     }
 
-    /// How many lines there are.
+    /// The number of lines without text.
     #[tactic(auto, using(crate::proofs::StepsMade::lines_left))]
     pub(crate) fn len(&self) -> usize
         ensures { result ≡ length self.now }
@@ -96,7 +95,7 @@ impl ExchangedLines {
         self.log.len() - self.made
     }
 
-    /// Takes all lines that the book of this link handed out, in place of its own. An empty list takes their place.
+    /// Takes all lines that the book of this link handed out, and drops its own. `log` gets an empty list.
     pub(crate) fn take(&mut self, link: u8, log: &mut Log)
         ensures taken { self.new ≡ lines_of link log.old }
         ensures left { log.new ≡ [] }
@@ -107,7 +106,7 @@ impl ExchangedLines {
         self.made = 0;
     }
 
-    /// Makes the text of lines, while there are fewer than `most` octets. If an allocation fails, the lines without
+    /// Makes the text of lines, while the text has fewer than `most` octets. If an allocation fails, the lines without
     /// text stay.
     pub(crate) fn add_text(&mut self, text: &mut Vec<u8>, most: usize) -> Result<(), AllocError>
         ensures fewer { length self.new ≤ length self.old }

@@ -12,20 +12,20 @@ use std::alloc::{AllocError, Global};
 use std::marker::Model;
 use std::mem;
 
-/// More octets than any line has, with its line feed.
+/// More octets than the longest line has, with its line feed.
 pub(crate) const LONGER_THAN_A_LINE: usize = 8_301;
 
-/// Text for the writing thread, and the lines whose text comes after it. Contracts see the text and these lines.
+/// Text for the writing thread, and the lines without text after it. Contracts see the text and these lines.
 #[derive(Drop)]
 pub struct MadeText {
-    // A list from whose front nothing is taken, so that few lines take little of its room.
+    // A `Vec`, not a deque: nothing is taken from its front, so that with few lines only its first part is touched.
     lines: Vec<Line>,
-    // How many of them have their text.
+    // How many of `lines` have their text.
     made: usize,
-    // The lines after those.
+    // The lines after `lines`.
     exchanged: ExchangedLines,
     text: Vec<u8>,
-    // How many lines got their text so far.
+    // How many lines got their text so far, or the greatest number.
     line_count: u64,
 }
 
@@ -44,7 +44,8 @@ impl Model for MadeText {
     ghost invariant = { λ made. made.made ≤ length made.lines.items };
 }
 
-/// Adds the text of lines from this place on, while there are fewer than `most` octets. Moves the place on.
+/// Adds the text of lines from the place `made` on, while the text has fewer than `most` octets, and moves the place
+/// on.
 fn add_lines(
     lines: &[Line],
     made: &mut usize,
@@ -69,8 +70,8 @@ fn add_lines(
     Ok(())
 }
 
-/// Adds the text of lines from this place on, and then of those after them, while there are fewer than `most` octets.
-/// Moves the place on.
+/// Adds the text of lines from the place `made` on, and then of the exchanged ones, while the text has fewer than
+/// `most` octets. Moves the place on.
 fn add_all(
     lines: &[Line],
     made: &mut usize,
@@ -95,8 +96,8 @@ fn add_all(
 }
 
 impl MadeText {
-    /// From how many octets of text that wait for the writing thread no more is made while the link is up. At 100 calls
-    /// a second, of five lines each, a device that takes nothing fills them in five minutes.
+    /// The limit on octets of text that wait for the writing thread: from there on no more text is made while the link
+    /// is up. At 100 calls a second, of five lines each, a device that takes nothing fills them in five minutes.
     pub const MOST: usize = 6 << 20;
 
     /// No line, and no text. There is room for all that may wait, so that no memory is needed while calls are served.
@@ -126,14 +127,14 @@ impl MadeText {
         self.text.len()
     }
 
-    /// The number of lines that got their text since the link came up, or the greatest number.
+    /// The number of lines that got their text since the link began, or the greatest number.
     pub fn line_count(&self) -> u64
         ensures { result ≡ self.now.line_count }
     {
         self.line_count
     }
 
-    /// Takes the lines that wait, once all lines have their text. Else nothing changes.
+    /// Takes the waiting lines, if all lines here have their text. Else nothing changes.
     pub fn refill(&mut self, waiting: &mut WaitingLines)
         ensures taken { self.old.lines ≡ [] → (self.new ≡ record self.old { lines = waiting.old }) × (waiting.new ≡ []) }
         ensures unchanged { self.old.lines ≢ [] → (self.new ≡ self.old) × (waiting.new ≡ waiting.old) }
@@ -146,7 +147,7 @@ impl MadeText {
     }
 
     /// Takes the lines that the book of this link handed out all at once, as by [`Book::exchange_log`](fp_book::Book),
-    /// once all lines have their text: an empty list takes their place. Else nothing changes.
+    /// if all lines here have their text; `log` gets an empty list. Else nothing changes.
     pub fn take_log(&mut self, link: u8, log: &mut Log)
         ensures taken { self.old.lines ≡ [] → (self.new ≡ record self.old { lines = lines_of link log.old }) × (log.new ≡ []) }
         ensures unchanged { self.old.lines ≢ [] → (self.new ≡ self.old) × (log.new ≡ log.old) }
@@ -159,8 +160,8 @@ impl MadeText {
         self.exchanged.take(link, log);
     }
 
-    /// Makes the text of lines, while it has fewer than `most` octets. If an allocation fails, the lines without text
-    /// stay.
+    /// Makes the text of lines, while the text has fewer than `most` octets. If an allocation fails, the lines without
+    /// text stay.
     #[tactic(auto, using(crate::proofs::OneAfterOther::both_count))]
     pub fn add_text(&mut self, most: usize) -> Result<(), AllocError>
         ensures in_order { self.new.text ++ lines_text self.new.lines ≡ self.old.text ++ lines_text self.old.lines }
@@ -184,7 +185,7 @@ impl MadeText {
         added
     }
 
-    /// Hands out all text: it takes the place of this one.
+    /// Hands out all text in `text`, whose octets are dropped, and keeps none.
     pub fn hand_out(&mut self, text: &mut Vec<u8>)
         ensures text { text.new.items ≡ self.old.text }
         ensures left { self.new ≡ record self.old { text = [] } }

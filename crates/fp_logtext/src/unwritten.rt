@@ -1,4 +1,4 @@
-//! The text that the writing thread took, and the device takes part after part.
+//! The text that the writing thread took, and the device takes part by part.
 
 ghost use Rattle.std.specs.Prelude.{◌≡◌, ◌≢◌, ◌+◌, ◌<◌, ◌≤◌, ◌++◌, ◌↔◌, IsTrue, [], ◌∷◌, length, take, drop, min, IfOk, OnOk, OnErr};
 ghost use Rattle.std.specs.Io.KnownBytes.{Appends};
@@ -15,7 +15,7 @@ use memchr::memchr_iter;
 use std::alloc::{AllocError, Global};
 use std::marker::Model;
 
-/// Writes a text, and returns how many octets of it the device took: all, or those before a write that failed.
+/// Writes a text, and returns how many octets of it the device took: all, or those before a failed write.
 fn write_front<L: LinkWrite>(device: &mut L, text: &[u8]) -> usize
     ensures most { result ≤ length text.now }
     ensures wrote { Appends (L.contents device.old) (L.contents device.new) (take result text.now) }
@@ -32,7 +32,7 @@ fn write_front<L: LinkWrite>(device: &mut L, text: &[u8]) -> usize
     at
 }
 
-/// How many line feeds a text has.
+/// The number of line feeds in a text.
 fn line_count(text: &[u8]) -> usize
     ensures { result ≡ count_by (is_byte 10) text.now }
 {
@@ -44,7 +44,7 @@ fn line_count(text: &[u8]) -> usize
     count
 }
 
-/// What a device took of a text.
+/// The part of a text that a device took.
 #[derive(Clone, Copy, Debug, PartialEq, Eq)]
 pub struct WrittenPart {
     /// The number of octets.
@@ -55,11 +55,11 @@ pub struct WrittenPart {
     pub is_all: bool,
 }
 
-/// The text that the device of a log hasn't taken yet. Contracts see it as its octets.
+/// The text that the device of a log hasn't taken yet. Contracts see its octets.
 #[derive(Drop)]
 pub struct UnwrittenText {
     text: Vec<u8>,
-    // How many of them the device took.
+    // How many octets of the text the device took.
     taken: usize,
 }
 
@@ -74,11 +74,11 @@ impl Model for UnwrittenText {
 }
 
 impl UnwrittenText {
-    /// The number of octets that are written at once: more than a line has, so that what a slow device takes is counted
-    /// in time.
+    /// The most octets that are written at once: more than a line has, so that a slow device's octets are counted in
+    /// time.
     pub const MOST_AT_ONCE: usize = 16_384;
 
-    /// No text. There is room for as much as one link may have.
+    /// An empty text. There is room for the most text of one link.
     pub fn new(alloc: Global) -> Result<UnwrittenText, AllocError>
         ensures { IfOk result (λ unwritten. unwritten ≡ []) }
     {
@@ -88,7 +88,7 @@ impl UnwrittenText {
         })
     }
 
-    /// Adds a line that no link has, as the head of a log.
+    /// Adds a line that no link has. For example, the head of a log.
     pub fn add(&mut self, line: &Line) -> Result<(), AllocError>
         ensures ok { OnOk result (self.new ≡ self.old ++ text_of line.now ++ 10 ∷ []) }
         ensures err { OnErr result (self.new ≡ self.old) }
@@ -96,14 +96,14 @@ impl UnwrittenText {
         write_line(line, &mut self.text)
     }
 
-    /// Whether the device took all.
+    /// Whether the device took all octets.
     pub fn is_empty(&self) -> bool
         ensures { IsTrue result ↔ (self.now ≡ []) }
     {
         self.text[self.taken..].is_empty()
     }
 
-    /// Takes the text of a link, once the device took all of this one. Else nothing changes.
+    /// Takes the text of a link, if the device took all octets here. Else nothing changes.
     pub fn take(&mut self, made: &mut MadeText)
         ensures taken { self.old ≡ [] → (self.new ≡ made.old.text) × (made.new ≡ record made.old { text = [] }) }
         ensures unchanged { self.old ≢ [] → (self.new ≡ self.old) × (made.new ≡ made.old) }
@@ -115,8 +115,8 @@ impl UnwrittenText {
         self.taken = 0;
     }
 
-    /// Writes a part of the text, 16,384 octets at most. If a write fails, the rest is left, from the octet on at which
-    /// it stopped.
+    /// Writes a part of the text, at most 16,384 octets. If a write fails, the text keeps the octets that the device
+    /// didn't take.
     pub fn write_part<L: LinkWrite>(&mut self, device: &mut L) -> WrittenPart
         ensures wrote { Appends (L.contents device.old) (L.contents device.new) (take result.octets self.old) }
         ensures left { self.new ≡ drop result.octets self.old }

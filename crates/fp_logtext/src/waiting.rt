@@ -21,7 +21,7 @@ fn message_len(line: &Line) -> usize
     }
 }
 
-/// Adds the number of octets that the messages of lines have, up to the greatest number.
+/// `octets` plus the octets of the messages of lines, at most the greatest number.
 fn plus_messages_len(octets: usize, lines: &[Line]) -> usize
     ensures { result ≡ min (octets + messages_len lines.now) usize.MAX }
 {
@@ -32,12 +32,11 @@ fn plus_messages_len(octets: usize, lines: &[Line]) -> usize
     sum
 }
 
-/// Lines of a link that were moved out of its book and wait for their text, in their order. Contracts see the list of
-/// the lines.
+/// Lines of a link that were moved out of its book and wait for their text, in their order. Contracts see their list.
 #[derive(Drop)]
 pub struct WaitingLines {
     lines: Vec<Line>,
-    // How many octets their messages have, which take most of the memory, or the greatest number.
+    // The octets of their messages, which take most of the memory, or the greatest number.
     octets: usize,
 }
 
@@ -54,22 +53,22 @@ impl Model for WaitingLines {
 }
 
 impl WaitingLines {
-    /// The number of lines that may wait.
+    /// The most lines that may wait.
     pub const MOST: usize = 32_768;
 
-    /// The number of lines that are moved at once.
+    /// The most lines that are moved at once.
     pub const MOST_AT_ONCE: usize = 256;
 
-    /// From this number of octets of messages on no more lines are moved.
+    /// The limit on octets of messages: from there on no more lines are moved.
     pub const MOST_OCTETS: usize = 4 << 20;
 
-    /// From this number of lines on the list is filling up: three quarters of its places.
+    /// The fewest lines of a list that is filling up: three quarters of its places.
     pub const FILLING_LINES: usize = WaitingLines::MOST / 4 * 3;
 
-    /// From this number of octets of their messages on it is.
+    /// The fewest octets of messages of a list that is filling up: three quarters of the limit.
     pub const FILLING_OCTETS: usize = WaitingLines::MOST_OCTETS / 4 * 3;
 
-    /// No line waits. There is room for as many as may.
+    /// An empty list. There is room for the most lines that may wait.
     pub fn new(alloc: Global) -> Result<WaitingLines, AllocError>
         ensures { IfOk result (λ waiting. waiting ≡ []) }
     {
@@ -88,7 +87,7 @@ impl WaitingLines {
             && self.octets < WaitingLines::MOST_OCTETS
     }
 
-    /// Whether the list is filling up, so that a thread that brings messages had better wait.
+    /// Whether the list is filling up, so that a thread that reads messages should wait.
     pub fn is_filling(&self) -> bool
         ensures { IsTrue result ↔ (Self.FILLING_LINES ≤ length self.now)
             ⊎ (Self.FILLING_OCTETS ≤ messages_len self.now) }
@@ -108,7 +107,7 @@ impl WaitingLines {
         Ok(())
     }
 
-    /// Hands out all lines: they take the place of these.
+    /// Hands out all lines in `lines`, whose lines are dropped, and keeps none.
     pub(crate) fn hand_out(&mut self, lines: &mut Vec<Line>)
         ensures lines { lines.new.items ≡ self.old }
         ensures left { self.new ≡ [] }

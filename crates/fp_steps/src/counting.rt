@@ -19,7 +19,7 @@ fn components_of(output: &Output) -> u32
     }
 }
 
-/// How many entries were served.
+/// How many entries a step served.
 fn entries_served(output: &Output) -> u64
     ensures { result ≡ entries_served output.now }
 {
@@ -29,7 +29,8 @@ fn entries_served(output: &Output) -> u64
     }
 }
 
-/// Whether a frame of a dialogue was sent, where this was out.
+/// Whether a step sent a frame of a dialogue, given the identifier of the dialogue whose parcel was out (0 for an Abort
+/// of the provider).
 fn is_sent(output: &Output, out: Option<u32>) -> bool
     ensures { result ≡ is_sent output.now out }
 {
@@ -42,7 +43,7 @@ fn is_sent(output: &Output, out: Option<u32>) -> bool
     }
 }
 
-/// What is out to be sent after an output, by the identifier of its dialogue, where this was before it.
+/// The identifier of the dialogue whose parcel is out after an output, given the one before it.
 fn local_after(output: &Output, before: Option<u32>) -> Option<u32>
     ensures { result ≡ local_after output.now before }
 {
@@ -53,14 +54,15 @@ fn local_after(output: &Output, before: Option<u32>) -> Option<u32>
     }
 }
 
-/// One more, if it is, up to the greatest number.
+/// `count + 1` if `is`, at most the greatest number.
 fn one_more(count: u64, is: bool) -> u64
     ensures { result ≡ capped (count + (if is then 1 else 0)) }
 {
     if is { count.saturating_add(1) } else { count }
 }
 
-/// The totals after one output more, where this was out to be sent. A number above the greatest one is given as that.
+/// The totals after one more output, given the dialogue whose parcel was out. A sum above the greatest number is
+/// replaced by that.
 fn with_output(totals: Totals, output: &Output, out: Option<u32>) -> Totals
     ensures { result ≡ capped_totals (plus totals (added_by output.now out)) }
 {
@@ -77,7 +79,7 @@ fn with_output(totals: Totals, output: &Output, out: Option<u32>) -> Totals
 }
 
 /// The totals of these outputs: the components that were accepted, the entries that were served, and the frames of
-/// dialogues that were sent. A number above the greatest one is given as that; no run has one. Takes no memory.
+/// dialogues that were sent. A sum above the greatest number is replaced by that; no run has one. Takes no memory.
 pub fn totals(outputs: &[Output]) -> Totals
     ensures of_runs { (tables : List Contents) (contexts : List (List ℕ)) (base : ℕ) (steps : List Step)
         → Runs tables contexts base steps outputs.now → result ≡ totals_of outputs.now }

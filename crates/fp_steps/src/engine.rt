@@ -1,4 +1,4 @@
-//! A book, and the tokens that are out of it.
+//! A book, and the tokens that it handed out.
 
 ghost use Rattle.std.specs.Prelude.{◌≡◌, ◌<◌, ◌≤◌, IfOk, Some, is_some};
 ghost use Rattle.std.specs.FinMap.{get};
@@ -20,14 +20,15 @@ use fp_row::Turn;
 use fp_tids::LocalIds;
 use std::alloc::{AllocError, Global};
 
-/// A book, and the tokens that it handed out. It must be spent.
+/// A book, and the tokens that it handed out. You must spend it by [`Engine::abandon`].
 pub(crate) struct Engine {
     pub(crate) book: Book,
     pub(crate) turns: Vec<Turn>,
     pub(crate) parcel: Option<Parcel>,
 }
 
-/// Puts back a turn that couldn't be served, so that what is out is what is kept.
+/// Puts back a turn that couldn't be served, so that the turns that are out are exactly the kept
+/// ones.
 fn give_up(book: &mut Book, turn: Turn)
     requires { turn_of (get book.old.rows turn.local) ≡ Some turn }
     ensures puts { PutsTurnBack book.old turn book.new }
@@ -46,7 +47,7 @@ fn is_handed_in(tables: &[Table], place: usize) -> bool
 }
 
 impl Engine {
-    /// Time goes by. `Err`: memory ran out for a Clock.
+    /// Advances the clock. `Err`: memory ran out for a Clock.
     fn tick(&mut self, moment: Moment) -> Result<Output, AllocError>
         requires sound { Sound self.old.book }
         requires holds { Holds self.old.turns.items self.old.parcel self.old.book }
@@ -146,7 +147,7 @@ impl Engine {
         }
     }
 
-    /// The parcel was sent.
+    /// Reports the parcel sent.
     fn sent(&mut self) -> Output
         requires sound { Sound self.old.book }
         requires holds { Holds self.old.turns.items self.old.parcel self.old.book }
@@ -166,7 +167,7 @@ impl Engine {
         }
     }
 
-    /// The parcel wasn't sent.
+    /// Reports the parcel not sent.
     fn unsent(&mut self) -> Output
         requires sound { Sound self.old.book }
         requires holds { Holds self.old.turns.items self.old.parcel self.old.book }
@@ -186,7 +187,7 @@ impl Engine {
         }
     }
 
-    /// Hands out what is sent next.
+    /// Hands out the next parcel.
     fn pick(&mut self, alloc: Global) -> Result<Output, AllocError>
         requires sound { Sound self.old.book }
         requires holds { Holds self.old.turns.items self.old.parcel self.old.book }
@@ -211,7 +212,7 @@ impl Engine {
         }
     }
 
-    /// The engine of a link on which nothing came yet.
+    /// The engine of a link without steps yet.
     pub(crate) fn new(alloc: Global, link: u8, tag: u16) -> Result<Engine, AllocError>
         requires links { link < LocalIds.LINKS }
         requires tags { tag ≤ LocalIds.LAST_TAG }
@@ -226,7 +227,7 @@ impl Engine {
         })
     }
 
-    /// A message is posted. `Err`: memory ran out for it.
+    /// Posts a message. `Err`: memory ran out for it.
     fn post(&mut self, alloc: Global, came: Prepared) -> Result<Output, AllocError>
         requires sound { Sound self.old.book }
         requires holds { Holds self.old.turns.items self.old.parcel self.old.book }
@@ -244,7 +245,7 @@ impl Engine {
         })
     }
 
-    /// A step is made. `Err`: memory ran out.
+    /// Makes a step. `Err`: memory ran out.
     pub(crate) fn make(
         &mut self,
         alloc: Global,

@@ -23,8 +23,8 @@ use fp_tids::LocalIds;
 use std::alloc::{AllocError, Global};
 use std::marker::Model;
 
-/// A run of a link, step by step: its book, and the turns and the parcel that are out. Contracts see it as its book. It
-/// must be spent.
+/// A run of a link, step by step: its book, and the turns and the parcel that are out. Contracts see its book. You must
+/// spend it by [`LinkRun::abandon`].
 #[must_use]
 pub struct LinkRun {
     engine: Engine,
@@ -60,8 +60,8 @@ fn step_in(line: Line) -> Option<LoggedStep>
     }
 }
 
-/// Takes the oldest line out of the log, if there is one. `lines` has room for one line, and is
-/// empty again. Takes no memory.
+/// Takes the oldest line out of the log, if there is one. `lines` has room for one line, and is empty again afterwards.
+/// Takes no memory.
 fn take_line(book: &mut Book, lines: &mut Vec<Line>) -> Option<LoggedStep>
     requires { IsPlace lines.old }
     ensures first { result ≡ first_of book.old.log }
@@ -75,8 +75,8 @@ fn take_line(book: &mut Book, lines: &mut Vec<Line>) -> Option<LoggedStep>
     step_in(line)
 }
 
-/// Drops all lines of the log, so that it neither fills nor keeps frames. `lines` has room for one
-/// line, and is empty again. Takes no memory.
+/// Drops all lines of the log, so that it neither fills nor keeps frames. `lines` has room for one line, and is empty
+/// again afterwards. Takes no memory.
 fn empty_log(book: &mut Book, lines: &mut Vec<Line>)
     requires sound { Sound book.old }
     requires place { IsPlace lines.old }
@@ -90,7 +90,7 @@ fn empty_log(book: &mut Book, lines: &mut Vec<Line>)
     }
 }
 
-/// What a log tells of a step of which a book has no line: of a tick at which no dialogue was due.
+/// The line of a tick that found no dialogue due. No book logs it.
 fn tick_in(step: &Step, output: &Output) -> Option<LoggedStep>
     ensures { result ≡ tick_in step.now output.now }
 {
@@ -100,7 +100,7 @@ fn tick_in(step: &Step, output: &Output) -> Option<LoggedStep>
     }
 }
 
-/// The place in which the table of a step is handed in, 0 to 65,535; this one, if it isn't.
+/// The place of the step's table in the list passed in, 0 to 65,535; `index` if the step has none.
 fn place_or(step: &Step, index: u16) -> u16
     ensures { result ≡ place_or step.now index }
 {
@@ -110,7 +110,7 @@ fn place_or(step: &Step, index: u16) -> u16
     }
 }
 
-/// The line that a book has of a step, with the place in which its table is handed in.
+/// The book's line of a step, with the place of its table in the list passed in.
 fn placed(step: &Step, line: LoggedStep) -> LoggedStep
     ensures { result ≡ placed step.now line }
 {
@@ -130,7 +130,7 @@ fn placed(step: &Step, line: LoggedStep) -> LoggedStep
     }
 }
 
-/// What a log tells of a step, where this is the line that its book has of it.
+/// The line of a step, given the line that its book has of it.
 fn told_from(line: Option<LoggedStep>, step: &Step, output: &Output) -> Option<LoggedStep>
     ensures { result ≡ told_from (option_to_list line) step.now output.now }
 {
@@ -141,7 +141,7 @@ fn told_from(line: Option<LoggedStep>, step: &Step, output: &Output) -> Option<L
 }
 
 impl LinkRun {
-    /// The run of a link, 0 to 7, with this tag, 0 to 4,094, on which nothing came yet. A run without a tag has 0. `Err`:
+    /// The run of a link, 0 to 7, with this tag, 0 to 4,094, without steps yet. A run without a tag has 0. `Err`:
     /// memory ran out.
     pub fn new(alloc: Global, link: u8, tag: u16) -> Result<LinkRun, AllocError>
         requires links { link < LocalIds.LINKS }
@@ -156,10 +156,10 @@ impl LinkRun {
         Ok(LinkRun { engine, lines })
     }
 
-    /// Makes a step, by these tables and names of application contexts: its answer, and the line that the log of the
-    /// link has of it. The tables are those that the run has, by its tag ([`handed_in`](crate::handed_in)). If a step is
-    /// impossible, the answer is `Nothing`. What a log has no line for changes nothing.
-    /// `Err`: memory ran out, and what the run is then isn't said: it is to be abandoned.
+    /// Makes a step, by these tables and names of application contexts: its answer, and its line in the log of the
+    /// link. You pass the tables that the run has, by its tag ([`handed_in`](crate::handed_in)). If a step is
+    /// impossible, the answer is `Nothing`. A step without a line in a log changes nothing. `Err`: memory ran out, and
+    /// no clause speaks of the run after that: you must abandon it.
     pub fn step(
         &mut self,
         alloc: Global,
@@ -189,8 +189,8 @@ impl LinkRun {
         local_in(&self.engine.turns, birth)
     }
 
-    /// What was counted so far: the components that were accepted, the entries that were served, and the frames of
-    /// dialogues that were sent. Takes no memory.
+    /// The totals so far: the components that were accepted, the entries that were served, and the frames of dialogues
+    /// that were sent. Takes no memory.
     pub fn totals(&self) -> Totals
         ensures { (tables : List Contents) (contexts : List (List ℕ)) (h : List Event) → IsAfter tables contexts h self.now → result ≡ totals_of (outputs_of h) }
     {

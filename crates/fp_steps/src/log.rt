@@ -27,7 +27,7 @@ pub(crate) struct TurnOut {
     pub(crate) position: u64,
 }
 
-/// The place of the turn of a dialogue.
+/// The position of a dialogue's turn, if it is out.
 fn place_in(turns: &[TurnOut], birth: u64) -> Option<u64>
     ensures { result ≡ place_in turns.now birth }
 {
@@ -35,7 +35,7 @@ fn place_in(turns: &[TurnOut], birth: u64) -> Option<u64>
     Some(turn.position)
 }
 
-/// The place of the turn of a dialogue, if one is given.
+/// The position of a dialogue's turn, if a dialogue is given and its turn is out.
 fn place_if(turns: &[TurnOut], birth: Option<u64>) -> Option<u64>
     ensures { result ≡ place_if birth turns.now }
 {
@@ -55,7 +55,7 @@ fn back_in(step: &Step) -> Option<u32>
     }
 }
 
-/// The identifier of the dialogue that an answer is of.
+/// The identifier of the dialogue that an output belongs to, if it belongs to one.
 fn names_in(step: &Step, output: &Output) -> Option<u32>
     ensures { result ≡ names_in step.now output.now }
 {
@@ -68,7 +68,7 @@ fn names_in(step: &Step, output: &Output) -> Option<u32>
     }
 }
 
-/// The dialogue whose turn goes out or comes back, where an answer is of this one.
+/// `birth`, the dialogue of the output, if its turn goes out or is taken back.
 fn moves(birth: Option<u64>, output: &Output) -> Option<u64>
     ensures { result ≡ moves birth output.now }
 {
@@ -78,7 +78,7 @@ fn moves(birth: Option<u64>, output: &Output) -> Option<u64>
     }
 }
 
-/// The turn that goes out.
+/// The turn that goes out, if one does; `birth` is the dialogue of the output.
 fn taken_in(birth: Option<u64>, output: &Output) -> Option<TurnOut>
     ensures { result ≡ taken_in birth output.now }
 {
@@ -98,7 +98,7 @@ fn forget(turns: &mut Vec<TurnOut>, birth: u64)
     turns.retain(|turn| turn.birth != birth);
 }
 
-/// Forgets the turn of a dialogue, if one is given.
+/// Forgets the turn of a dialogue, if a dialogue is given.
 fn forget_if(turns: &mut Vec<TurnOut>, dialogue: Option<u64>)
     ensures { turns.new.items ≡ others_if dialogue turns.old.items }
 {
@@ -107,7 +107,7 @@ fn forget_if(turns: &mut Vec<TurnOut>, dialogue: Option<u64>)
     }
 }
 
-/// Keeps which turns are out after an answer, which is of this dialogue. `Err`: memory ran out.
+/// Updates the turns that are out after an output; `birth` is its dialogue. `Err`: memory ran out.
 fn follow_turns(
     turns: &mut Vec<TurnOut>,
     birth: Option<u64>,
@@ -122,7 +122,7 @@ fn follow_turns(
     Ok(())
 }
 
-/// Which dialogues the local transaction identifiers name.
+/// The dialogues that the local transaction identifiers name.
 #[derive(Drop)]
 struct Named {
     // By identifier: the birth of the dialogue that was opened with it last.
@@ -132,7 +132,7 @@ struct Named {
 }
 
 impl Named {
-    /// None was opened. Takes no memory.
+    /// No dialogue was opened yet. Takes no memory.
     fn new(alloc: Global) -> Named
         ensures names { (local : ℕ) → name_of result local ≡ None }
         ensures count { result.count ≡ 0 }
@@ -150,7 +150,7 @@ impl Named {
         self.births.get(&local).copied()
     }
 
-    /// So if an identifier is given.
+    /// The birth of the dialogue that an identifier names, if there is an identifier.
     fn name_if(&self, local: Option<u32>) -> Option<u64>
         ensures { result ≡ option_and_then (name_of self.now) local }
     {
@@ -160,7 +160,7 @@ impl Named {
         }
     }
 
-    /// A dialogue is opened with this identifier. `Err`: memory ran out.
+    /// Opens a dialogue with this identifier. `Err`: memory ran out.
     fn open(&mut self, local: u32) -> Result<(), AllocError>
         requires { self.old.count + 1 < 2 ^ 64 }
         ensures { IfOk result (λ _. NamesThen self.old (Some local) self.new) }
@@ -171,7 +171,7 @@ impl Named {
         Ok(())
     }
 
-    /// A dialogue is opened, or none, by an answer. `Err`: memory ran out.
+    /// Opens a dialogue if an output opened one. `Err`: memory ran out.
     fn follow(&mut self, output: &Output) -> Result<(), AllocError>
         requires { self.old.count + 1 < 2 ^ 64 }
         ensures { IfOk result (λ _. NamesThen self.old (opened_in output.now) self.new) }
@@ -186,7 +186,7 @@ impl Named {
     }
 }
 
-/// The place of a table, as a log has it, up to this one.
+/// The place of a table in a log, if it is at most `last`.
 pub(crate) fn place_of(table: usize, last: u16) -> Option<u16>
     ensures { result ≡ place_of last table }
 {
@@ -197,8 +197,8 @@ pub(crate) fn place_of(table: usize, last: u16) -> Option<u16>
     }
 }
 
-/// What a log tells of a message, by its answer: nothing, if its table is after this place. `Err`: its octets have as
-/// many shares as can be counted.
+/// The log line of a posted message, with its answer: `None` if its table is after the place `last`, or if the step
+/// posts none. `Err`: a frame's reference count is at its maximum.
 fn told_message(step: &Step, answer: Posted, last: u16) -> Result<Option<LoggedStep>, AllocError>
     ensures told { IfOk result (λ told. told ≡ told_message last step.now answer) }
     ensures place { IfOk result (λ told. IfSome told (HasPlace last)) }
@@ -228,7 +228,7 @@ fn told_message(step: &Step, answer: Posted, last: u16) -> Result<Option<LoggedS
     }
 }
 
-/// What a log tells of a tick.
+/// The log line of a tick, if the step is one.
 pub(crate) fn told_tick(step: &Step, added: u32, wanting: u32) -> Option<LoggedStep>
     ensures { result ≡ told_tick step.now added wanting }
 {
@@ -242,7 +242,7 @@ pub(crate) fn told_tick(step: &Step, added: u32, wanting: u32) -> Option<LoggedS
     }
 }
 
-/// What a log tells of the turn of a dialogue that went back, from this place.
+/// The log line of a turn that was put back: `birth` is its dialogue, `place` its position.
 fn back_by(birth: Option<u64>, place: Option<u64>) -> Option<LoggedStep>
     ensures { result ≡ back_by birth place }
 {
@@ -251,15 +251,15 @@ fn back_by(birth: Option<u64>, place: Option<u64>) -> Option<LoggedStep>
     Some(LoggedStep::PutBack { birth, position })
 }
 
-/// The birth of the dialogue with this identifier, where it names this one; 0 for an Abort of the provider.
+/// The birth of the dialogue with this identifier, given that it names `dialogue`; 0 for an Abort of the provider.
 fn birth_under(local: u32, dialogue: Option<u64>) -> u64
     ensures { result ≡ birth_under local dialogue }
 {
     if local == 0 { 0 } else { dialogue.unwrap_or(0) }
 }
 
-/// What is out to be sent after an answer, by the birth of its dialogue, where the answer is of this dialogue, and that
-/// was out before.
+/// The parcel that is out after this output (its dialogue's birth), given the one before. `birth` is the dialogue of
+/// the output.
 fn sending_after(birth: Option<u64>, output: &Output, before: Option<u64>) -> Option<u64>
     ensures { result ≡ sending_after birth output.now before }
 {
@@ -270,8 +270,9 @@ fn sending_after(birth: Option<u64>, output: &Output, before: Option<u64>) -> Op
     }
 }
 
-/// What a log tells of a step, where its answer is of this dialogue, whose turn has this place, and that is out to be
-/// sent. Its table has a place up to the last one. `Err`: a frame's reference count is at its maximum.
+/// The log line of a step. `birth`, `place` and `sending` are the dialogue, the position of its turn and the parcel
+/// that is out, all before the step. A table's place is at most `last`. `Err`: a frame's reference count is at its
+/// maximum.
 fn told_by(
     last: u16,
     birth: Option<u64>,
@@ -317,7 +318,7 @@ fn told_by(
     })
 }
 
-/// Whether a log has a line for what is told of a step.
+/// Whether a log has this line: a tick that found no dialogue due is left out.
 fn is_written(step: &LoggedStep) -> bool
     ensures { result ≡ is_written step.now }
 {
@@ -327,7 +328,7 @@ fn is_written(step: &LoggedStep) -> bool
     }
 }
 
-/// What of it the log has.
+/// The line, if a log has it.
 fn written(told: Option<LoggedStep>) -> Option<LoggedStep>
     ensures { result ≡ written told }
 {
@@ -335,7 +336,7 @@ fn written(told: Option<LoggedStep>) -> Option<LoggedStep>
     if is_written(&step) { Some(step) } else { None }
 }
 
-/// Puts a line after the others, if there is one, in a run with this tag. `Err`: memory ran out.
+/// Adds a line at the end, if there is one, in a run with this tag. `Err`: memory ran out.
 fn add(
     lines: &mut Vec<Line>,
     link: u8,
@@ -355,7 +356,7 @@ fn add(
     Ok(())
 }
 
-/// The log of a run so far, and what is out.
+/// The log of a run so far, and the turns and the parcel that are out.
 #[derive(Drop)]
 struct LogSoFar {
     lines: Vec<Line>,
@@ -366,7 +367,7 @@ struct LogSoFar {
 }
 
 impl LogSoFar {
-    /// One more step of a link, in a run with this tag. `Err`: memory ran out.
+    /// Adds one more step of a link, in a run with this tag. `Err`: memory ran out.
     fn tell(&mut self, link: u8, tag: u16, step: &Step, output: &Output) -> Result<(), AllocError>
         requires link { link < LocalIds.LINKS }
         requires count { self.old.named.count + 1 < 2 ^ 64 }
@@ -387,9 +388,10 @@ impl LogSoFar {
     }
 }
 
-/// The log of a run on a link, 0 to 7, which made these steps and has these outputs: how many links there are up to
-/// that one, and then the line of each step that is logged, in their order. Each line is in the ranges of the log's
-/// format; a message by a table after the last place ([`last_place`]) has none. Of steps and outputs that aren't those of a run no more is said. `Err`: memory ran out.
+/// The log of a run on a link, 0 to 7, with these steps and outputs: a head with the number of links up to that one,
+/// and then the line of each logged step, in their order. Each line is in the ranges of the log's format; a message by
+/// a table after the last place ([`last_place`]) has none. For steps and outputs that no run has, no clause says more.
+/// `Err`: memory ran out.
 pub fn lines_of(
     alloc: Global,
     link: u8,

@@ -3,21 +3,21 @@
 use bytes::Bytes;
 use fp_book::{Given, Posted};
 
-/// What a step answers.
+/// The answer of a step.
 #[derive(Debug, Drop)]
 pub enum Output {
     /// A message was posted.
     Posted {
-        /// What became of it.
+        /// Its outcome.
         answer: Posted,
         /// How many components were accepted.
         components: u32,
     },
-    /// Time went by.
+    /// The clock advanced.
     Ticked {
         /// How many dialogues were given a Clock.
         added: u32,
-        /// How many were left out because memory ran out.
+        /// How many dialogues that are due were left out because memory ran out.
         wanting: u32,
     },
     /// A turn is out.
@@ -39,7 +39,7 @@ pub enum Output {
         position: u64,
         /// How many entries were served.
         served: u32,
-        /// What became of their requests.
+        /// The outcome of their requests.
         given: Given,
     },
     /// A turn was put back, not served.

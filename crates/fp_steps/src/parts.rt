@@ -1,4 +1,4 @@
-//! Small parts of steps: where a turn is, and what a message was prepared to.
+//! Small parts of steps: the place of a turn, and whether a message was lost.
 
 ghost use Rattle.std.specs.Prelude.{◌≡◌, ◌==◌};
 ghost use Rattle.std.specs.List.{position};
@@ -9,14 +9,14 @@ ghost use Rattle.fp_steps.specs.proof_only.Tokens.{TakesOut, local_in};
 use fp_entry::Prepared;
 use fp_row::Turn;
 
-/// Where the turn of a dialogue is.
+/// The place of a dialogue's turn in a list.
 fn index_of(turns: &[Turn], local: u32) -> Option<usize>
     ensures { result ≡ position (λ (t : Turn). t.local == local) turns.now }
 {
     turns.iter().position(|turn| turn.local() == local)
 }
 
-/// Takes the turn of a dialogue out of these, if it is there. Takes no memory.
+/// Takes the turn of a dialogue out of a list, if it is there. Takes no memory.
 pub(crate) fn take_turn(turns: &mut Vec<Turn>, local: u32) -> Option<Turn>
     ensures { TakesOut local turns.old.items result turns.new.items }
 {
@@ -26,7 +26,7 @@ pub(crate) fn take_turn(turns: &mut Vec<Turn>, local: u32) -> Option<Turn>
     Some(turns.remove(index))
 }
 
-/// The local transaction identifier of the dialogue with this birth, if its turn is among these.
+/// The local transaction identifier of the dialogue with this birth, if its turn is in the list.
 pub(crate) fn local_in(turns: &[Turn], birth: u64) -> Option<u32>
     ensures { result ≡ local_in turns.now birth }
 {

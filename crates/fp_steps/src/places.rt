@@ -16,7 +16,7 @@ pub fn last_place(tag: u16) -> u16
     }
 }
 
-/// The tables that a run with this tag has, of those that are handed in: the first ones, up to its last place.
+/// The tables that a run with this tag has: the first ones of this list, up to its last place.
 pub fn handed_in(tag: u16, tables: &[Table]) -> &[Table]
     ensures { result.now ≡ handed_in tag tables.now }
 {

@@ -1,4 +1,5 @@
-//! What the types of a log's lines keep, as clauses. Each function takes a value apart and does nothing with it.
+//! The guarantees of the types of a log's lines, as clauses. Each function takes a value apart and does nothing with
+//! it.
 
 ghost use Rattle.std.specs.Prelude.{◌<◌, ◌≤◌, ◌^◌, length};
 ghost use Rattle.fp_frames.specs.Frame.{IsMessageLength};
@@ -53,7 +54,7 @@ fn posting_is_in_range(moment: Moment, message: &Frame, answer: Posted)
     answer_is_in_range(answer);
 }
 
-/// The numbers of what became of requests have at most 32 bits.
+/// The numbers in the outcome of requests have at most 32 bits.
 fn given_is_in_range(given: Given)
     ensures { IsCounted given }
 {

@@ -6,19 +6,19 @@ use fp_frames::Frame;
 /// A step of a link.
 #[derive(Debug, Drop)]
 pub enum Step {
-    /// A message came at this moment.
+    /// A message arrives.
     Post {
-        /// The place of the table by whose records it is read, 0 to 65,535, among those that the run has. Without a table
-        /// there the step is impossible.
+        /// The place of the table that it is read by, 0 to 65,535, among the tables of the run. Without a table there
+        /// the step is impossible.
         table: usize,
         /// The message, without its head.
         frame: Frame,
-        /// When it came.
+        /// The moment of the message.
         moment: Moment,
     },
-    /// A message came at this moment, and memory ran out while it was read.
+    /// A message arrives at this moment, and memory runs out while it is read.
     Lost(Frame, Moment),
-    /// It is this moment.
+    /// The clock reaches this moment.
     Tick(Moment),
     /// A worker is free.
     Take,

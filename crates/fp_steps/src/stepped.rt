@@ -1,14 +1,14 @@
-//! What is made of a step.
+//! The result of a step.
 
 use crate::Output;
 use fp_book::LoggedStep;
 
-/// What a step answers, and what the log of its link tells of it.
+/// The answer of a step, and its line in the log of its link.
 #[derive(Debug, Drop)]
 pub struct Stepped {
-    /// What the step answers.
+    /// The answer.
     pub output: Output,
-    /// What a log tells of it: nothing for the answers `NoRoom`, `Busy` and `Nothing`. A tick is told even where no
+    /// The log line: `None` for the answers `NoRoom`, `Busy` and `Nothing`. There is one for every tick, even if no
     /// dialogue was due at it, though a log leaves that out.
     pub line: Option<LoggedStep>,
 }

@@ -14,7 +14,7 @@ use fp_records::Table;
 use fp_tids::LocalIds;
 use std::alloc::{AllocError, Global};
 
-/// The outputs of these steps on a link on which nothing came yet. `Err`: memory ran out.
+/// The outputs of these steps on a link without steps yet. `Err`: memory ran out.
 fn make_all(
     alloc: Global,
     tables: &[Table],
@@ -33,32 +33,32 @@ fn make_all(
     Ok(outputs)
 }
 
-/// The outputs of these steps on a link, 0 to 7, on which nothing came yet, by these tables and names of application
-/// contexts. If a step is impossible, its output is `Nothing`, and it changes nothing. `Err`: memory ran out.
+/// The outputs of these steps on a link, 0 to 7, without steps yet, by these tables and names of application contexts.
+/// If a step is impossible, its output is `Nothing`, and it changes nothing. `Err`: memory ran out.
 ///
-/// At each moment of the run, and for each dialogue, the entries that were served are a prefix of those that it
-/// accepted, cut at its end, in their order and each once; and the frames that were sent for it are a prefix of those
-/// that its service logic requests on them, in their order and each once, under its own identifiers. No two dialogues
-/// that are held have the same local transaction identifier, and the Aborts of the provider that were sent are a prefix
-/// of those that were answered. The identifier of a dialogue that is held names it; and while the link is up each of
-/// the 131,072 serials may be given or is that of a dialogue that is held, so that a Begin never lacks one.
+/// At each moment of the run, and for each dialogue, the served entries are a prefix of the accepted ones, cut at the
+/// dialogue's end, in their order and each once; and the frames sent for it are a prefix of those that its service
+/// logic requests on them, in their order and each once, under its own identifiers. No two held dialogues have the same
+/// local transaction identifier, and the Aborts of the provider that were sent are a prefix of those that were
+/// answered. The identifier of a held dialogue names it; and while the link is up each of the 131,072 serials may be
+/// given or belongs to a held dialogue, so that a Begin never lacks one.
 ///
 /// Each output is the answer at its moment, which the steps and outputs before it determine. A message gets the answer
-/// of the first matching rule of receipt; a dialogue is opened with the identifier at the front of a queue: that of
-/// serial 1, 2 and so on at first, and then those of dialogues that are no longer held, in the order in which they went.
-/// A tick counts the dialogues that are due. A turn is handed out for the dialogue that has been ready longest, unless
-/// none is ready or all places are held; it is given or put back while it is out. The oldest Abort of the provider is
-/// sent next, or, where none waits, the oldest frame, while nothing else is out to be sent.
+/// of the first matching rule of receipt. A dialogue is opened with the identifier at the front of a queue: of serial
+/// 1, 2 and so on at first, and then of the dialogues that are no longer held, in the order of their ends. A tick
+/// counts the dialogues that are due. A turn is handed out for the dialogue that has been ready longest, unless none is
+/// ready or all places are held; it is given or put back while it is out. The oldest Abort of the provider is sent
+/// next, or, if none waits, the oldest frame, while no other parcel is out.
 ///
-/// The totals of the outputs are sums over the dialogues: of the entries that each accepted and that come from
-/// components, of those that were served, and of the frames that were sent for it.
+/// The totals of the outputs are sums over the dialogues: of the entries that each accepted for components, of the
+/// entries served, and of the frames sent for it.
 ///
-/// At each moment at which the link is up, no turn is out, and a take and a pick would both be answered `Nothing`,
-/// nothing is left to do: all that a dialogue accepted was served, up to its end, unless a refused message closed it;
-/// all that its service logic requests on that was sent, unless something ended it from outside; and all Aborts of the
-/// provider that were answered were sent.
+/// Whenever the link is up, no turn is out, and a take and a pick would both be answered `Nothing`, nothing is left to
+/// do: all accepted entries of a dialogue were served, up to its end, unless a refused message closed it; all frames
+/// that its service logic requests on them were sent, unless something ended it from outside; and all answered Aborts
+/// of the provider were sent.
 ///
-/// What the log of the run has of its steps ([`lines_of`](crate::lines_of)) fits a history with the same totals.
+/// The log lines of the run's steps ([`lines_of`](crate::lines_of)) fit a history with the same totals.
 ///
 /// The run has no tag: an identifier is the sum of the link times 2^29 and a serial, and the run has the first 1,000 of
 /// these tables. [`run_with_tag`] has one.
@@ -77,7 +77,7 @@ pub fn run(
 }
 
 /// As [`run`], in a run with this tag, 0 to 4,094: to each identifier the tag times 2^17 is added, so that the
-/// identifiers of two tags never meet (`identifiers_are_distinct` of `fp_tids`). If the tag isn't 0, the run has the
+/// identifiers of two tags are different (`identifiers_are_distinct` of `fp_tids`). If the tag isn't 0, the run has the
 /// first 65,536 tables.
 pub fn run_with_tag(
     alloc: Global,

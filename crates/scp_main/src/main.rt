@@ -2,7 +2,8 @@
 //! standard output and standard error are handed to the library `scp`, whose answer is the exit status.
 //!
 //! This is the outermost layer. It alone asks the system for the words and for the standard streams. The layers below
-//! are handed what opens files, awaits connections, starts threads and reads the clock, and ask it for those.
+//! are handed the means to open files, await connections, start threads and read the clock, and ask the system for
+//! those.
 #![tactic(auto)]
 
 use scp::{program_with_links, refuse_words};
@@ -15,7 +16,7 @@ use std::{env, io};
 /// The descriptor of standard input.
 const STANDARD_INPUT: i32 = 0;
 
-/// How many standard streams there are: descriptors 0, 1 and 2.
+/// The number of standard streams: descriptors 0, 1 and 2.
 const STANDARD_STREAMS: i32 = 3;
 
 fn main(rt: HostRuntime) -> ExitCode {
@@ -43,10 +44,10 @@ fn main(rt: HostRuntime) -> ExitCode {
     ExitCode::from(status)
 }
 
-// Opens `/dev/null` in the place of the first standard stream that is closed, so that no file of the run gets its
-// descriptor, and what is written to standard output doesn't end up in the log. `None`: none is closed, or there is no
-// `/dev/null`. Reading and
-// writing a stream that was closed fail as before, since it is opened for the other of the two.
+// Opens `/dev/null` in place of the first standard stream that is closed, so that no file of the run gets its
+// descriptor, and text for standard output doesn't end up in the log. `None` if no stream is closed, or there is no
+// `/dev/null`. Reading and writing a stream that was closed fail as before, since it is opened for the other of the
+// two. For example, a closed standard input becomes `/dev/null`, opened for writing.
 fn missing_stream<H: Files<File = File>>(rt: &H) -> Option<File> {
     let file = OpenOptions::new().read(true).open(rt, "/dev/null").ok()?;
     let descriptor = file.as_raw_fd();
@@ -61,7 +62,7 @@ fn missing_stream<H: Files<File = File>>(rt: &H) -> Option<File> {
     }
 }
 
-// The words of the command line, of which the first names the program.
+// The words of the command line. The first names the program.
 fn words_of<H: Env + AllocGlobal>(rt: &H) -> io::Result<Vec<String>> {
     Ok(env::args(rt)?.collect(rt.alloc())?)
 }
