@@ -1,15 +1,13 @@
 """A network of its own, and captures that tshark reads."""
-import ctypes
-import fcntl
+import contextlib
 import os
 import pathlib
 import signal
-import socket
-import struct
 import subprocess
 import time
 
-CLONE_NEWNET, SIOCGIFFLAGS, SIOCSIFFLAGS, IFF_UP = 0x40000000, 0x8913, 0x8914, 1
+import network
+
 # What these send is malformed by intention.
 MALFORMED = ("handshake", "hostile")
 # Where IPA goes: between osmo-stp and the nodes, and between exchanges and osmo-stp.
@@ -17,12 +15,10 @@ IPA_PORTS = (17000, *range(17101, 17113))
 
 
 def take_network():
-    """As root, where that is allowed, takes a network of its own, so that nothing else has the ports."""
-    if os.geteuid() != 0 or ctypes.CDLL(None).unshare(CLONE_NEWNET) != 0:
-        return
-    with socket.socket(socket.AF_INET, socket.SOCK_DGRAM) as it:
-        name, flags = struct.unpack("16sh", fcntl.ioctl(it, SIOCGIFFLAGS, struct.pack("16sh", b"lo", 0)))
-        fcntl.ioctl(it, SIOCSIFFLAGS, struct.pack("16sh", name, flags | IFF_UP))
+    """As root, where that is allowed, takes a network of its own."""
+    if os.geteuid() == 0:
+        with contextlib.suppress(OSError):
+            network.take()
 
 
 def begin(options, name):

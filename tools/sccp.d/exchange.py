@@ -6,10 +6,10 @@ import re
 import selectors
 import time
 
+import tcap
 import wire
 
 OWN_SUBSYSTEM, SUBSYSTEM, FOLDER = 12, 241, pathlib.Path(__file__).resolve().parent
-OWN_TAG, OTHER_TAG = b"\x48\x04", b"\x49\x04"
 
 Kind = collections.namedtuple("Kind", "name steps")
 
@@ -39,17 +39,6 @@ GOOD = [kind for kind in KINDS if not kind.name.startswith("faulty")]
 
 def spelt(pieces, own, other):
     return b"".join([own if piece is None else other if piece is True else piece for piece in pieces])
-
-
-def identifiers(data):
-    """The originating and the destination identifier of a message, each None if it isn't there."""
-    at = 2 if data[1] < 128 else 2 + (data[1] & 127)
-    own = other = None
-    if data[at:at + 2] == OWN_TAG:
-        own, at = data[at + 2:at + 6], at + 6
-    if data[at:at + 2] == OTHER_TAG:
-        other = data[at + 2:at + 6]
-    return own, other
 
 
 class Dialogue:
@@ -161,14 +150,14 @@ class Exchange:
             self.counts["returned"] += 1
             return None
         called, calling, data = wire.parts(message)
-        tid, own = identifiers(data)
+        tid, own = tcap.identifiers(data)
         number, node = int.from_bytes(own, "big"), wire.point_code_of(calling)
         dialogue = self.dialogues.get(number)
         self.answers += 1
         if dialogue is None:
             self.counts["late"] += 1
             return None
-        if data[:1] == b"\x67" and data[-3:] == b"\x4A\x01\x01" and dialogue.kind.steps[dialogue.at][1][-1] != data[-3:]:
+        if data[0] == tcap.ABORT and data[-3:] == b"\x4A\x01\x01" and dialogue.kind.steps[dialogue.at][1][-1] != data[-3:]:
             return self.end(number, dialogue, "aborted")
         if dialogue.at > 1 and node != dialogue.node or dialogue.waits:
             return self.end(number, dialogue, "crossed", message)

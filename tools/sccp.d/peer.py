@@ -1,12 +1,13 @@
 """A transfer point that sends to a node what it likes: the rows, cut connections, messages that were changed at random."""
 import random
-import socket
 import time
 
+import client
+import tcap
 import wire
 
-BEGIN = bytes.fromhex("622D48040000002A6C25A123020101020100301B80016482078310081032540683078313032143650785010A9C0103")
-END = bytes.fromhex("641D49040000002A6C15A113020101020114300BA009040783100322324304")
+# A call, and the End with Connect that answers it.
+BEGIN, END = tcap.call(42), tcap.connected(42)
 NODE, COMMON, EXCHANGE = wire.address(201, 241), wire.address(200, 241), wire.address(100, 12)
 TITLE = bytes.fromhex("5364000C001204947112325476")
 FIRST = bytes.fromhex("1004C101020300")
@@ -19,13 +20,11 @@ def segments():
     return [wire.xudt(COMMON, EXCHANGE, BEGIN[:24], 0x81, FIRST), wire.xudt(COMMON, EXCHANGE, BEGIN[24:], 0x81, SECOND)]
 
 
-class Peer:
+class Peer(client.Connection):
     """A connection to a node, as a transfer point opens it."""
 
     def __init__(self, port, seconds=5.0):
-        self.socket = socket.create_connection(("127.0.0.1", port), seconds)
-        self.socket.setsockopt(socket.IPPROTO_TCP, socket.TCP_NODELAY, 1)
-        self.socket.settimeout(seconds)
+        super().__init__(("127.0.0.1", port), seconds)
         self.got = b""
 
     def send(self, *octets):
@@ -54,13 +53,6 @@ class Peer:
         is_asked = self.message() == wire.ipa(wire.CCM, b"\4\1\1")
         self.send(wire.ipa(wire.CCM, wire.identity(unit)), wire.ipa(wire.CCM, bytes([wire.ID_ACK])))
         return is_asked and self.message() == wire.ipa(wire.CCM, bytes([wire.ID_ACK]))
-
-    def reset(self):
-        self.socket.setsockopt(socket.SOL_SOCKET, socket.SO_LINGER, b"\1\0\0\0\0\0\0\0")
-        self.socket.close()
-
-    def close(self):
-        self.socket.close()
 
 
 def rows():
@@ -94,7 +86,8 @@ class Mutations:
     def __init__(self, seed):
         self.random = random.Random(seed)
         self.number = 0
-        opened = bytes.fromhex("654048040000002A4904000000016C32A115020102020118300D800105A303810102A403800100")
+        # (the lengths of a message with a longer component portion)
+        opened = bytes.fromhex("654048040000002A4904000000016C32") + tcap.report(2, 5)
         data = [BEGIN, END, opened, b"\x61\x02\x6c\x00", b"\x67\x06\x49\x04\0\0\0\1", bytes(255), BEGIN[:9]]
         self.whole = [wire.udt(NODE, EXCHANGE, it, cls) for it in data for cls in (0, 1, 0x80, 0x81)]
         self.whole += [wire.xudt(COMMON, EXCHANGE, it, 0x81) for it in data] + segments() * 4
@@ -183,9 +176,9 @@ class Hostile:
         for stream, message in messages:
             if stream == wire.SCCP and message[0] == wire.UDT:
                 data = wire.parts(message)[2]
-                if data[:1] == b"\x65":
-                    at = data.index(b"\x48\4")
-                    aborts.append(wire.ipa(wire.SCCP, wire.udt(NODE, EXCHANGE, b"\x67\6\x49\4" + data[at + 2:at + 6])))
+                if data[0] == tcap.CONTINUE:
+                    abort = tcap.user_aborted(tcap.identifiers(data)[0])
+                    aborts.append(wire.ipa(wire.SCCP, wire.udt(NODE, EXCHANGE, abort)))
         self.aborted += len(aborts)
         self.peer.send(*aborts)
         return messages
@@ -196,9 +189,9 @@ class Hostile:
             return
         own = b"\xEE" + self.calls.to_bytes(3, "big")
         self.calls += 1
-        want = wire.udt(EXCHANGE, NODE, END[:4] + own + END[8:])
+        want = wire.udt(EXCHANGE, NODE, tcap.connected(own))
         try:
-            self.peer.send(wire.ipa(wire.SCCP, wire.udt(COMMON, EXCHANGE, BEGIN[:4] + own + BEGIN[8:])))
+            self.peer.send(wire.ipa(wire.SCCP, wire.udt(COMMON, EXCHANGE, tcap.call(own))))
             limit = time.monotonic() + 20
             while time.monotonic() < limit:
                 if any(message == want for _, message in self.drain(0.5)):

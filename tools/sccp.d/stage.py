@@ -6,8 +6,10 @@ import socket
 import subprocess
 import time
 
+import preload
+import run
+
 FOLDER = pathlib.Path(__file__).resolve().parent
-ROOT = FOLDER.parent.parent
 TICKS = os.sysconf("SC_CLK_TCK")
 
 
@@ -15,7 +17,7 @@ def stand_in(folder):
     """The stand-in for SCTP, compiled into this folder."""
     made = folder / "sctp_over_tcp.so"
     if not made.exists():
-        subprocess.run(["cc", "-O2", "-shared", "-fPIC", "-o", made, FOLDER / "sctp_over_tcp.c", "-ldl"], check=True)
+        preload.build(made, (FOLDER / "sctp_over_tcp.c").read_text())
     return made
 
 
@@ -25,7 +27,7 @@ class Stage:
     def __init__(self, options, folder):
         self.options, self.folder, self.running, self.nodes = options, folder, {}, {}
         self.records = folder / "records.csv"
-        self.records.write_text((ROOT / "examples/freephone.csv").read_text())
+        self.records.write_text((run.ROOT / "examples/freephone.csv").read_text())
 
     def start(self, name, words, **more):
         with open(self.folder / f"{name}.err", "ab") as errors:
@@ -77,11 +79,8 @@ class Stage:
     def reload(self, own, number):
         """Has a node read its records again, and waits until it has."""
         self.command(own, "reload")
-        limit = time.monotonic() + 10
-        while f"reloaded {number}\n" not in self.printed(own):
-            if time.monotonic() > limit:
-                raise TimeoutError(f"node {own} didn't reload")
-            time.sleep(0.02)
+        if not run.until(lambda: f"reloaded {number}\n" in self.printed(own), 10):
+            raise TimeoutError(f"node {own} didn't reload")
 
     def ends(self, own, seconds=10):
         """Whether a node ends by itself within some seconds, with status 0, and its log replays to what it printed."""
@@ -154,8 +153,7 @@ class Stage:
 
     def memory(self, name):
         """Kilobytes of memory that a process has now."""
-        text = pathlib.Path(f"/proc/{self.running[name].pid}/status").read_text()
-        return int(text.partition("VmRSS:")[2].split()[0])
+        return run.memory_of(self.running[name].pid)
 
     def is_running(self, name):
         return self.running[name].poll() is None

@@ -1,218 +1,19 @@
-"""The tries of tools/units, run inside the machine that it boots. Each prints a line for what was seen, `ok` or `FAIL`."""
+"""The tries of tools/units, run inside the machine that it boots. The functions that they call are in machine.py."""
 import contextlib
-import glob
 import os
 import pathlib
 import re
-import signal
-import socket
 import subprocess
 import sys
 import time
 
-ROOT, LOGS, RUN, RECORDS = pathlib.Path("/root/scp"), "/var/log/scp", "/run/scp/run", "/etc/scp/records.csv"
-PACKAGE = next(ROOT.glob("*.deb"), None)
-BY_HAND, LIBRARY = "/usr/local/lib/scp", "/usr/libexec/freephone-scp" if PACKAGE else "/usr/local/lib/scp"
-PROGRAM, DROP_IN = LIBRARY + "/scp", pathlib.Path("/run/systemd/system/scp.service.d/try.conf")
-passed = failed = 0
-
-
-def note(is_wanted, what, seen=""):
-    global passed, failed
-    passed, failed = passed + bool(is_wanted), failed + (not is_wanted)
-    text = str(seen).replace("\n", " | ")
-    print(f"{'ok  ' if is_wanted else 'FAIL'} {what}{': ' if text else ''}{text}", flush=True)
-
-
-def sh(command, seconds=60):
-    """Runs a command in bash, and gives its status and output."""
-    run = subprocess.run(["bash", "-c", command], stdin=subprocess.DEVNULL, stdout=subprocess.PIPE,
-                         stderr=subprocess.STDOUT, timeout=seconds, cwd=ROOT)
-    return run.returncode, run.stdout.decode(errors="replace").strip()
-
-
-def succeeds(command):
-    return sh(command)[0] == 0
-
-
-def show(unit, *fields):
-    lines = dict(line.split("=", 1) for line in sh(f"systemctl show {unit}")[1].splitlines() if "=" in line)
-    return [lines.get(field, "") for field in fields]
-
-
-def heard(what, *words, units="-u scp"):
-    """Gives what a function returns, and the lines with one of these words that came into the journal meanwhile."""
-    cursor = re.search(r"-- cursor: (.*)", sh("journalctl --sync; journalctl -n 0 --show-cursor")[1])[1]
-    result = what()
-    lines = sh(f"journalctl --sync; journalctl -q -o cat --after-cursor='{cursor}' {units}")[1].splitlines()
-    return result, [line for line in lines if any(word in line for word in words)]
-
-
-def wait_until(what, seconds=10.0):
-    limit = time.monotonic() + seconds
-    while not what():
-        if time.monotonic() > limit:
-            return False
-        time.sleep(0.02)
-    return True
-
-
-def is_listening(port=14700):
-    with open("/proc/net/tcp") as file:
-        return f":{port:04X} 00000000:0000 0A" in file.read()
-
-
-def is_gone(path):
-    """Waits until a FIFO is removed: its socket unit stops a moment after the service."""
-    return wait_until(lambda: not os.path.exists(path))
-
-
-def active(unit="scp"):
-    """Waits until a unit has started: until then systemctl refuses to reload it."""
-    wait_until(lambda: show(unit, "ActiveState") == ["active"])
-
-
-def reload(units="scp"):
-    """Gives whether `systemctl reload` succeeds."""
-    active()
-    return succeeds("systemctl reload " + units)
-
-
-def force():
-    """Has the records taken by the command of the document, and gives whether a run answers from them."""
-    active()
-    sh(block("RECORDS_FORCE"))
-    return pathlib.Path(RUN, "good.csv").read_bytes() == pathlib.Path(RECORDS).read_bytes()
-
-
-def main_pid(unit="scp"):
-    return int(show(unit, "MainPID")[0] or 0)
-
-
-def files(pattern="*", folder=LOGS):
-    return sorted(os.path.basename(it) for it in glob.glob(f"{folder}/{pattern}"))
-
-
-def drop_in(text):
-    DROP_IN.parent.mkdir(parents=True, exist_ok=True)
-    DROP_IN.write_text(f"[Service]\n{text}\n")
-    sh("systemctl daemon-reload")
-
-
-def name():
-    """The name of the files of the run, or of the last one."""
-    return pathlib.Path(RUN, "name").read_text().strip()
-
-
-def tag_of(run, folder=LOGS):
-    """Gives the number of links and the tag in the head of the log of a run, once that is over."""
-    return sh(f"zcat -f {folder}/{run}-00000* | sed -n 's/^fplog 5 //p;q'")[1]
-
-
-def call(link):
-    """Makes a call to 800123456, and gives its destination."""
-    link.sendall(bytes.fromhex("0000002F622D48040000002A6C25A123020101020100301B800164820783100810325406"
-                               "83078313032143650785010A9C0103"))
-    answer = link.recv(35, socket.MSG_WAITALL)
-    if len(answer) < 35:
-        raise ConnectionError("no answer")
-    return "".join(f"{octet & 15:x}{octet >> 4:x}" for octet in answer[-5:])[:9]
-
-
-def connect(port=14700, seconds=5.0):
-    """Connects and makes a call, as a switch that tries again after 50 ms, and fails if that takes longer. Gives the link,
-    the number of times that it was refused, and the milliseconds until the answer."""
-    begun, refused = time.monotonic(), 0
-    while True:
-        link = socket.socket()
-        link.settimeout(5)
-        try:
-            link.connect(("127.0.0.1", port))
-            call(link)
-            return link, refused, (time.monotonic() - begun) * 1000
-        except ConnectionError:
-            link.close()
-            refused += 1
-            if time.monotonic() > begun + seconds:
-                raise
-            time.sleep(0.05)
-
-
-def linked(port=14700):
-    return connect(port)[0]
-
-
-def drop(link, seconds=5.0):
-    """Closes a link and connects again: a new link, and what that took in words."""
-    link.close()
-    link, *figure = connect(seconds=seconds)
-    return link, range_of([figure])
-
-
-def drops(link, seconds=None):
-    """Drops a link five times, so long after another run listens, if given: the last link, what the calls got, figures."""
-    got, figures = [], []
-    for _ in range(5):
-        if seconds is not None:
-            wait_until(is_listening)
-            time.sleep(seconds)
-        link.close()
-        link, *figure = connect()
-        got.append(call(link))
-        figures.append(figure)
-    return link, got, figures
-
-
-def range_of(figures):
-    """Gives what several connections took, in words."""
-    ends = [f"{min(them):.{digits}f} to {max(them):.{digits}f}" for digits, them in enumerate(zip(*figures))]
-    refused, took = [end if len(figures) > 1 else end.split()[0] for end in ends]
-    return f"refused {refused} times, answered after {took} ms"
-
-
-def restarted(link, unit="scp"):
-    """Restarts a unit that has the link. Gives whether that succeeds, the new link, refusals and milliseconds."""
-    restarting = subprocess.Popen(["systemctl", "restart", unit])
-    with contextlib.suppress(OSError):
-        while link.recv(1):
-            pass
-    figures = connect()
-    return restarting.wait() == 0, *figures
-
-
-def over(link, unit="scp", port=14700):
-    """Closes a link and waits until the next run of its unit listens."""
-    pid = main_pid(unit)
-    link.close()
-    wait_until(lambda: main_pid(unit) not in (0, pid) and is_listening(port))
-
-
-def records(*lines, one="302223344", more=0, end="\n"):
-    """Writes good records, with one as the destination of 800123456, and further lines."""
-    text = ["key,100,60", f"800123456,,1234567,00:00,24:00,1,route,{one}",
-            "800123457,,1234567,00:00,24:00,1,route,302223344", "800123458,,1234567,00:00,24:00,1,refuse",
-            "800123459,,1234567,00:00,24:00,1,pass"]
-    text += [f"8009{number:05},,1234567,00:00,24:00,1,route,302223344" for number in range(more)]
-    pathlib.Path(RECORDS + ".new").write_text("\n".join([*text, *lines]) + end)
-    os.rename(RECORDS + ".new", RECORDS)
-
-
-def block(word, section="Under systemd"):
-    """Gives the commands of the block of docs/serving.md that has a word, with the paths of the package if that is tried."""
-    text = (ROOT / "docs/serving.md").read_text().replace(BY_HAND, LIBRARY)
-    if PACKAGE:
-        text = text.replace(" examples/", " /usr/share/doc/freephone-scp/examples/")
-    text = text[text.index(f"\n## {section}\n"):]
-    for found in re.findall(r"```console by-hand\n(.*?)```", text[:text.index("\n## ", 5)], re.S):
-        if word in found:
-            return "".join(line[2:] + "\n" for line in found.splitlines() if line.startswith(("$ ", "> ")))
-    raise ValueError(f"docs/serving.md has no block with {word}")
-
-
-def replay(run):
-    """Replays the log of a run by the commands of the document, and gives what the replay printed."""
-    script = re.sub(r"run=\S+", "run=" + run, block("replay $run"))
-    return sh(script if files(run + ".*.csv") else script.replace(" $run.*.csv", ""))[1]
+ROOT = pathlib.Path(__file__).resolve().parent.parent.parent
+sys.path[:0] = [str(ROOT / "tools/lib")]
+from client import Link
+from machine import (DROP_IN, LOGS, PACKAGE, PROGRAM, RECORDS, RUN, SEEN, active, block, call, connect, drop, drop_in, drops,
+                     files, force, heard, is_gone, is_listening, linked, main_pid, name, note, over, range_of, records, reload,
+                     replay, restarted, sh, show, succeeds, system, tag_of, wait_until)
+from packages import package
 
 
 def install():
@@ -410,14 +211,15 @@ def full_disk():
     sh("systemctl stop scp; umount /var/log/scp; systemctl start scp")
 
 
+def given():
+    """The tag that the run was given, whether it answers a call, its link and its name."""
+    tag, link = pathlib.Path(RUN, "tag").read_text().strip(), linked()
+    return tag, bool(call(link)), link, name()
+
+
 def tags():
     """The counter that gives each run its tag."""
     counter, found = pathlib.Path(LOGS, "tag"), []
-
-    def given():
-        """The tag that the run was given, and whether it answers a call."""
-        tag, link = pathlib.Path(RUN, "tag").read_text().strip(), linked()
-        return tag, bool(call(link)), link, name()
 
     for _ in range(3):
         tag, _, link, run = given()
@@ -447,6 +249,11 @@ def tags():
     note(is_done and is_answered and tag == "auto" and is_tag and lines, "a counter that can't be written",
          f"{tag}, in the log {tag_of(run)}; {lines}")
     sh(f"rmdir {counter}; systemctl restart scp")
+    tags_on_a_full_disk()
+
+
+def tags_on_a_full_disk():
+    """The counter can't be made, or can't grow."""
     sh("systemctl stop scp; mount -t tmpfs -o size=100k,mode=755 tmpfs /var/log/scp; chown scp:scp /var/log/scp")
     sh("dd if=/dev/zero of=/var/log/scp/fill bs=1k")
     is_done, lines = heard(lambda: succeeds("systemctl start scp"), "can't be written")
@@ -468,7 +275,7 @@ def empty_runs():
         over(linked())
     before = files()
     for _ in range(5):
-        over(socket.create_connection(("127.0.0.1", 14700)))
+        over(Link(("127.0.0.1", 14700)))
     new = [it for it in files() if it not in before]
     note(new == [name() + ".csv"], "five runs without a message leave nothing", f"new is that of the run: {new}")
     copies = {os.stat(f"{LOGS}/{it}").st_ino for it in files("run-*Z.csv")[-3:] + ["good.csv"]}
@@ -507,7 +314,7 @@ def starts():
     note(is_done and call(link) == "302220808" and not lines, "eight workers, and a reload: tasks",
          show("scp", "TasksCurrent", "TasksMax"))
     _, lines = heard(lambda: sh("systemctl stop scp"), "link 0")
-    is_done = link.recv(1) == b"" and is_gone("/run/scp/commands") and "down quit" in lines[0] and "accepted 2" in lines[1]
+    is_done = link.receive() == b"" and is_gone("/run/scp/commands") and "down quit" in lines[0] and "accepted 2" in lines[1]
     note(is_done, "stop drains the link, and removes the FIFO", lines)
     records()
     is_done = succeeds(f"rm {DROP_IN}; systemctl daemon-reload; echo links > /run/scp/commands; systemctl start scp")
@@ -523,7 +330,7 @@ def plain_file():
     seen = files(run + "*")
     note(status == 0 and is_done and seen == [run + it for it in (".00001.csv", ".csv", ".log")], "the log in one file", seen)
     for _ in range(2):
-        over(socket.create_connection(("127.0.0.1", 14700)))
+        over(Link(("127.0.0.1", 14700)))
     note(len(files("run-*.now")) == 1, "runs without a message leave nothing", files("run-*.now"))
     text = replay(run)
     is_done = succeeds("logrotate /etc/logrotate.d/scp") and files(run + ".log*") == [run + ".log.1.gz"]
@@ -578,75 +385,6 @@ def closed_day():
     over(link)
 
 
-def system():
-    """What is on the machine: its files, except those that it writes by itself, and its users."""
-    own = ("/etc/*-", "/root/*", "/run/agetty.reload", "/run/systemd/*", "/run/udev/*", "/tmp/*", "/var/cache/*",
-           "/var/lib/apt/*", "/var/lib/dpkg/*", "/var/log/journal/*", "/var/log/apt/*", "/var/log/dpkg.log", "/var/tmp/*")
-    names = " ".join(f"! -path '{it}'" for it in own)
-    return {*sh(f"find / /run -xdev {names}; cat /etc/passwd /etc/group /etc/shadow /etc/gshadow")[1].splitlines()}
-
-
-def signals():
-    """The command `freephone-scp serve` by hand, and SIGTERM or SIGINT."""
-    for number in (signal.SIGTERM, signal.SIGINT):
-        words = ["freephone-scp", "serve", RECORDS, "--listen", "127.0.0.1:14800", "--log", "/root/signals.log"]
-        # (a script that was started in the background ignores SIGINT, and so does what it starts)
-        run = subprocess.Popen(words, stdin=subprocess.PIPE, stdout=subprocess.PIPE, stderr=subprocess.STDOUT,
-                               preexec_fn=lambda: signal.signal(signal.SIGINT, signal.SIG_DFL))
-        link = linked(14800)
-        run.send_signal(number)
-        said = run.communicate(timeout=10)[0].decode()
-        text = sh(f"freephone-scp replay {RECORDS} /root/signals.log")[1]
-        is_done = run.returncode == 0 and link.recv(1) == b"" and said.endswith(text + "\n")
-        note(is_done and "accepted 1 served 2 sent 1" in text, f"{number.name} to the command: quit", said)
-
-
-def package():
-    """The package: a call, an upgrade under an open log, a removal and a purge."""
-    if not PACKAGE:
-        raise ValueError("needs --package FILE")
-    text = sh(block("calls.txt", "From a package"))[1]
-    note("302223344   chosen" in text and " 32 43 04\n" in text, "a call and its explanation, by the document's commands",
-         "\n".join(text.splitlines()[-3:]))
-    signals()
-    is_done, lines = heard(lambda: succeeds(f"set -e\n{block('scp-offset.timer')}systemctl start scp-offset"), RECORDS)
-    note(is_done and " instead of key,100,60" in lines[0], "scp-offset, for Athens, by the document's commands", lines)
-    records()
-    reload()
-    sh("systemctl start scp@14701; dpkg-deb -R *.deb /root/next; sed -i 's/^Version: .*/&.next/' /root/next/DEBIAN/control; "
-       f"echo mark >> /root/next{PROGRAM}; dpkg-deb -Znone -b /root/next /root/next.deb")
-    links, run, pids = [linked(), linked(14701)], name(), [main_pid(), main_pid("scp@14701")]
-    status, text = sh("dpkg -i /root/next.deb")
-    is_open = all(call(link) for link in links) and pids == [main_pid(), main_pid("scp@14701")]
-    is_told = "with the program that they began with:\n    scp.service scp@14701.service" in text
-    note(status == 0 and is_open and is_told, "an upgrade under two open logs: both go on, and it says so",
-         text[text.find("freephone-scp: no"):])
-    records(one="302225454")
-    is_done = reload()
-    note(is_done and call(links[0]) == "302225454", "the older run reloads")
-    over(links[0])
-    text = replay(run)
-    is_new = pathlib.Path(f"/proc/{main_pid()}/exe").read_bytes().endswith(b"mark\n")
-    note(is_new and "accepted 3" in text, "its log replays, and the next run has the new program", text)
-    text = sh("dpkg -i /root/next.deb")[1]
-    note("they began with:\n    scp@14701.service\n" in text and call(links[1]), "once more: one run is older")
-    link, run, before = linked(), name(), files()
-    status, text = sh("dpkg -r freephone-scp")
-    is_over = link.recv(1) == links[1].recv(1) == b"" and not is_listening()
-    after = {it.removesuffix(".gz") for it in files()}
-    is_kept = os.path.exists(RECORDS) and {it.removesuffix(".gz") for it in before} <= after
-    lines = sh("journalctl -q -o cat -u scp -u scp@14701 | grep 'down quit'")[1]
-    is_done = status == 0 and is_over and is_kept and lines.count("quit") == 2
-    note(is_done, "removed: both runs quit, records and logs stay", lines)
-    sh("dpkg -i /root/next.deb; systemctl start scp")
-    is_answered, text = call(linked()) == "302225454", replay(run)
-    note(is_answered and "accepted 1" in text, "installed again: it answers from these records, and the log replays", text)
-    sh("systemctl enable scp@14701; " + block("scp-spare.conf").replace("14700", "14701"))
-    status, text = sh("dpkg -P freephone-scp")
-    more, less = system() - BEFORE, BEFORE - system()
-    note(status == 0 and not more | less, "purged: nothing stays", [*sorted(more)[:9], *sorted(less)[:9]])
-
-
 TRIES = [install, a_call, spare, faulty, doubtful, full_disk, tags, empty_runs, upgrade, starts, plain_file, template,
          closed_day, package]
 BEFORE = system()
@@ -656,10 +394,9 @@ for one in TRIES:
         continue
     print(f"-- {one.__name__}", flush=True)
     try:
-        one()
+        one(*[BEFORE] * (one is package))
     except Exception as fault:
         line = getattr(fault.__traceback__.tb_next, "tb_lineno", "?")
         note(False, one.__name__, f"{type(fault).__name__}: {fault} (line {line})\n"
              + sh("journalctl -q -u scp -n 12")[1])
-print(f"{passed} passed, {failed} failed")
-sys.exit(failed > 0)
+sys.exit(SEEN.end())
