@@ -4,10 +4,11 @@
 //! parcels reach the threads that wait for them, since no clause names what another thread may have changed. These
 //! tests show it. They are in a crate of their own so that `fp_hub` is proved once.
 //!
-//! * `walks`: one thread makes each call in turn; what the calls answer is compared word by word.
+//! * `walks`: one thread makes the calls of a script, a line each, and the words that they answer are compared. A test
+//!   names the first line whose words are others.
 //! * `relays`: one thread posts messages, workers serve them, another thread sends; the answers are compared octet by
 //!   octet.
-//! * `messages`: the records, the messages and what answers them.
+//! * `messages`: the records, the messages and their answers.
 //! * [`SecondFirst`] is a gate that holds a turn until another dialogue was answered. The tests of `fp_serve` use it,
 //!   too.
 #![tactic(auto)]

@@ -1,4 +1,4 @@
-//! Links over memory, whose threads share a hub: messages go in, and their answers come out.
+//! Links over memory, whose threads share a hub: messages are posted, and their answers are sent.
 
 mod link;
 mod plan;
@@ -53,7 +53,7 @@ fn assert_answered<R: Abort>(
         assert_eq!(rt; last.as_slice(), wanted.as_slice());
     }
     assert_eq!(rt; answers.len(), plan.count as usize);
-    // They differ in the identifier alone, so the smaller one comes first.
+    // Answers differ in the identifier alone, so the smaller one is first.
     answers.sort_unstable();
     let mut identifier = plan.first;
     for given in &answers {
@@ -111,7 +111,7 @@ struct Passes {
 /// How a turn counts.
 const ONE_TURN: u64 = 0x1_0000_0000;
 
-/// What is counted of 40 turns, one of each dialogue from 1 to 40: the sum of these numbers is 820.
+/// The count of 40 turns, one of each dialogue from 1 to 40: the sum of these numbers is 820.
 const ONE_OF_EACH: u64 = 40 * ONE_TURN + 820;
 
 impl Passes {

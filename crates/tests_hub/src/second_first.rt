@@ -9,26 +9,26 @@ use std::time::Duration;
 /// How many milliseconds a test waits for something, or how often it looks for it, once a millisecond.
 pub const MOST_WAITS: u32 = 10_000;
 
-/// What a gate has counted ([`SecondFirst::seen`]) once the turn of its first dialogue and that of its second one have
-/// passed it once each, and nothing else has.
+/// The count of a gate ([`SecondFirst::seen`]) that the turn of its first dialogue and the turn of its second one have
+/// passed once each, and no other turn has.
 pub const EACH_ONCE: u64 = 0x11;
 
 /// How the turn counts that is held.
 const HELD: u64 = 0x1;
 
-/// How any turn counts but those of the two dialogues.
+/// How any other turn counts than the turns of the two dialogues.
 const OTHERS: u64 = 0x100;
 
 /// A gate that holds the first turn of the first dialogue of a link until a mark says that the second dialogue was
-/// answered, and counts the turns that come.
+/// answered, and counts the turns that pass.
 #[derive(Drop)]
 pub struct SecondFirst<'a, R: Clock> {
     rt: &'a R,
     link: u8,
     is_answered: &'a AtomicBool,
-    // The turns that came so far, each in four bits of its own.
+    // The turns that passed so far, each in four bits of its own.
     seen: AtomicU64,
-    // Whether it gave up: the mark didn't come in time.
+    // Whether it gave up: the mark wasn't set in time.
     is_late: AtomicBool,
 }
 
@@ -44,8 +44,8 @@ impl<'a, R: Clock> SecondFirst<'a, R> {
         }
     }
 
-    /// How often each turn has come: in the last four bits the first one of the first dialogue, in the four above them
-    /// that of the second dialogue; above these eight bits all other turns, and those of another link.
+    /// How often each turn has passed: in the last four bits the first one of the first dialogue, in the four above them
+    /// the first one of the second dialogue; above these eight bits all other turns, also of another link.
     pub fn seen(&self) -> u64 {
         self.seen.load(Ordering::SeqCst)
     }

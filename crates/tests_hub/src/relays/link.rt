@@ -1,4 +1,4 @@
-//! A link whose messages come out of a list, and whose answers go into one.
+//! A link whose messages are taken from a list, and whose answers are put into one.
 
 ghost use Rattle.fp_hub.specs.Shares.{AreBlanks, Whole};
 
@@ -16,19 +16,19 @@ use std::sync::ledger::{Blank, Ledger};
 use std::thread;
 use std::thread::Threads;
 
-/// What came of a link.
+/// The result of a link.
 #[derive(Drop)]
 pub(crate) struct Relayed {
     // Whether each message opened the dialogue that it should, with a hint, and no hint was given once the hub was
     // closed.
     pub(crate) are_opened: bool,
-    // What was sent, in its order.
+    // The frames that were sent, in their order.
     pub(crate) answers: Vec<Vec<u8>>,
     pub(crate) line_count: Option<usize>,
     pub(crate) totals: Option<Totals>,
 }
 
-/// Sends, and posts on another thread, until the link is down. Both seats come back in one.
+/// Sends, and posts on another thread, until the link is down. Gives both seats as one.
 fn post_and_send<
     'x,
     R: Threads + Wait + Clock + Sync,
@@ -68,7 +68,7 @@ fn post_and_send<
     (are_opened, sent)
 }
 
-/// Runs the threads of a link: its workers, one that posts and one that sends. All seats come back in one.
+/// Runs the threads of a link: its workers, one that posts and one that sends. Gives all seats as one.
 fn run_roles<
     'x,
     R: Threads + Wait + Clock + Sync,

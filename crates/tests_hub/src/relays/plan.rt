@@ -1,4 +1,4 @@
-//! What goes through a link, and what its threads share beside the hub.
+//! The messages of a link, and the values that its threads share beside the hub.
 
 use crate::messages::{CALLS_COUNT, begin, calls};
 use fp_frames::Frame;
@@ -7,16 +7,16 @@ use fp_records::Table;
 use std::alloc::Global;
 use std::sync::atomic::{AtomicBool, AtomicU32};
 
-/// How the sender comes by its parcels.
+/// How the sender gets its parcels.
 #[derive(Clone, Copy)]
 pub(crate) enum Sending {
-    /// It picks, and looks again a millisecond later where there is none.
+    /// By picking them. If there is none, it looks again a millisecond later.
     Picks,
-    /// It waits for them until the link is down.
+    /// By waiting for them until the link is down.
     Awaits,
 }
 
-/// What goes through a link.
+/// The messages of a link, and the ways of its threads.
 #[derive(Clone, Copy)]
 pub(crate) struct Plan {
     pub(crate) link: u8,
@@ -34,7 +34,7 @@ pub(crate) struct Plan {
     pub(crate) is_long: bool,
     // How many milliseconds go by before each message.
     pub(crate) pause: u64,
-    // Whether a message to a dialogue that doesn't exist comes after all the others.
+    // Whether a message to a dialogue that doesn't exist is posted after all the others.
     pub(crate) has_stranger: bool,
     // How many messages, and the first identifier. Each other one is greater by this step.
     pub(crate) count: u32,
@@ -43,7 +43,7 @@ pub(crate) struct Plan {
 }
 
 impl Plan {
-    /// The identifier of a message. They don't come in their order.
+    /// The identifier of a message. Messages aren't in the order of their identifiers.
     pub(crate) fn identifier(&self, number: u32) -> u32 {
         let place = number.wrapping_mul(617) % self.count.max(1);
         self.first.saturating_add(place.saturating_mul(self.step))
@@ -75,7 +75,7 @@ impl Plan {
     }
 }
 
-/// What all threads of a link share.
+/// The marks that all threads of a link share.
 #[derive(Drop)]
 pub(crate) struct Marks {
     // Whether the frame of the second dialogue was picked.
@@ -94,7 +94,7 @@ impl Marks {
     }
 }
 
-/// What goes through a link, and what its threads share beside the hub.
+/// The plan of a link, and the values that its threads share beside the hub.
 #[derive(Clone, Copy)]
 pub(super) struct Load<'x> {
     pub(super) alloc: Global,

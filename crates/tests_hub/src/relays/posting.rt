@@ -2,9 +2,8 @@
 
 use super::plan::{Load, Marks};
 use crate::MOST_WAITS;
-use crate::messages::{STRANGE, frame_of};
+use crate::messages::{STRANGE, frame_of, prepared};
 use fp_book::Posted;
-use fp_digits::Moment;
 use fp_entry::Prepared;
 use fp_frames::Frame;
 use fp_hub::{Gate, Hub, Seat};
@@ -24,9 +23,41 @@ fn post<R: Wait, A: Ledger, B: Ledger, C: Ledger>(
     load: Load<'_>,
     frame: Option<Frame>,
 ) -> Option<Posted> {
-    let moment = Moment::new(1_714_996_800_000)?;
-    let came = Prepared::read(load.alloc, load.table, &[], frame?, moment);
+    let came = prepared(load.alloc, load.table, frame)?;
     Some(hub.post(rt, load.alloc, seat, came))
+}
+
+/// Puts a message of a plan at the end of a list. `None`: out of memory.
+fn add(came: &mut VecDeque<Prepared>, load: Load<'_>, number: u32) -> Option<()> {
+    let frame = load.plan.frame(load.alloc, number);
+    came.push_back(prepared(load.alloc, load.table, frame)?)
+        .ok()
+}
+
+/// The messages of a plan. `None`: out of memory.
+fn prepared_all(load: Load<'_>) -> Option<VecDeque<Prepared>> {
+    let mut came = VecDeque::new(load.alloc);
+    for number in 0..load.plan.count {
+        add(&mut came, load, number)?;
+    }
+    Some(came)
+}
+
+/// Hints once, or helps to serve messages that were posted in one hold. `false`: the hint failed.
+fn hint_or_help<R: Wait, G: Gate, A: Ledger, B: Ledger, C: Ledger>(
+    rt: &R,
+    hub: &Hub<A, B, C>,
+    seat: &mut Seat<A, B, C>,
+    gate: &G,
+    most_helped: usize,
+) -> bool {
+    if most_helped == 0 {
+        return hub.hint(rt);
+    }
+    if hub.help(rt, gate, seat, most_helped) {
+        hub.tell_sender();
+    }
+    true
 }
 
 /// Posts the messages of a plan, at most 64, in one hold, and hints once, or helps to serve them. `false`: one wasn't
@@ -38,33 +69,46 @@ fn post_in_one_hold<R: Wait, G: Gate, A: Ledger, B: Ledger, C: Ledger>(
     gate: &G,
     load: Load<'_>,
 ) -> bool {
-    let Load {
-        alloc,
-        table,
-        plan,
-        ..
-    } = load;
-    let mut came = VecDeque::new(alloc);
-    for number in 0..plan.count {
-        let (Some(frame), Some(moment)) = (
-            plan.frame(alloc, number),
-            Moment::new(1_714_996_800_000),
-        ) else {
-            return false;
-        };
-        let prepared = Prepared::read(alloc, table, &[], frame, moment);
-        if came.push_back(prepared).is_err() {
-            return false;
+    let Some(mut came) = prepared_all(load) else {
+        return false;
+    };
+    let is_aborted = hub.post_front(rt, load.alloc, seat, &mut came);
+    let are_posted = !is_aborted && came.is_empty();
+    hint_or_help(rt, hub, seat, gate, load.plan.most_helped) && are_posted
+}
+
+/// Posts a message of a plan, and hints if each has a hint of its own. `false`: it didn't open the dialogue that it
+/// should, or the hint failed.
+fn post_one<R: Wait + Clock, A: Ledger, B: Ledger, C: Ledger>(
+    rt: &R,
+    hub: &Hub<A, B, C>,
+    seat: &mut Seat<A, B, C>,
+    load: Load<'_>,
+    number: u32,
+) -> bool {
+    let plan = load.plan;
+    thread::sleep(rt, Duration::from_millis(plan.pause));
+    let frame = plan.frame(load.alloc, number);
+    match post(rt, hub, seat, load, frame) {
+        Some(Posted::Opened(local)) if local == plan.local(number) => {
+            plan.is_hinted_once || hub.hint(rt)
         }
+        _ => false,
     }
-    let is_aborted = hub.post_front(rt, alloc, seat, &mut came);
-    if plan.most_helped == 0 {
-        return !is_aborted && came.is_empty() && hub.hint(rt);
-    }
-    if hub.help(rt, gate, seat, plan.most_helped) {
-        hub.tell_sender();
-    }
-    !is_aborted && came.is_empty()
+}
+
+/// Posts a message to a dialogue that doesn't exist, once all answers were sent: its Abort would be sent before one that
+/// waits. `false`: no Abort of the provider answers it.
+fn post_stranger<R: Wait + Clock, A: Ledger, B: Ledger, C: Ledger>(
+    rt: &R,
+    hub: &Hub<A, B, C>,
+    seat: &mut Seat<A, B, C>,
+    load: Load<'_>,
+) -> bool {
+    await_sent(rt, load.marks, load.plan.count);
+    thread::sleep(rt, Duration::from_millis(load.plan.pause));
+    let posted = post(rt, hub, seat, load, frame_of(load.alloc, STRANGE));
+    matches!(posted, Some(Posted::Aborted(_)))
 }
 
 /// Posts the messages of a plan, and hints. `false`: one didn't open the dialogue that it should, or a hint failed, or
@@ -81,22 +125,12 @@ fn post_all<R: Wait + Clock, G: Gate, A: Ledger, B: Ledger, C: Ledger>(
         return post_in_one_hold(rt, hub, seat, gate, load);
     }
     for number in 0..plan.count {
-        thread::sleep(rt, Duration::from_millis(plan.pause));
-        let frame = plan.frame(load.alloc, number);
-        let posted = post(rt, hub, seat, load, frame);
-        if posted != Some(Posted::Opened(plan.local(number))) {
-            return false;
-        }
-        if !plan.is_hinted_once && !hub.hint(rt) {
+        if !post_one(rt, hub, seat, load, number) {
             return false;
         }
     }
     if plan.has_stranger {
-        // Its Abort would be sent before an answer that waits.
-        await_sent(rt, load.marks, plan.count);
-        thread::sleep(rt, Duration::from_millis(plan.pause));
-        let posted = post(rt, hub, seat, load, frame_of(load.alloc, STRANGE));
-        return matches!(posted, Some(Posted::Aborted(_)));
+        return post_stranger(rt, hub, seat, load);
     }
     !plan.is_hinted_once || hub.hint(rt)
 }

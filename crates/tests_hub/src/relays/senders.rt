@@ -1,4 +1,4 @@
-//! Threads that send what a hub hands out, and keep it.
+//! Threads that send the parcels of a hub, and keep their octets.
 
 use super::plan::Marks;
 use crate::MOST_WAITS;
@@ -12,14 +12,14 @@ use std::sync::ledger::Ledger;
 use std::thread;
 use std::time::Duration;
 
-/// What a sender hands back.
+/// The seat of a sender, and the octets that it sent.
 #[derive(Drop)]
 pub(super) struct Sent<A: Ledger, B: Ledger, C: Ledger> {
     pub(super) seat: Seat<A, B, C>,
     pub(super) answers: Vec<Vec<u8>>,
 }
 
-/// Keeps what a parcel holds, and reports it sent.
+/// Keeps the octets of a parcel, and reports it sent.
 fn send<R: Wait, A: Ledger, B: Ledger, C: Ledger>(
     rt: &R,
     alloc: Global,

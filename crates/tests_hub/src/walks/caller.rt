@@ -1,26 +1,24 @@
-//! A thread that makes one call of a hub after the other, and puts each answer into a word.
+//! The thread that plays a script: it makes one call of a hub after the other, and compares the words of each.
 
 use super::Walk;
-use crate::messages::{UNIDIRECTIONAL, frame_of};
-use fp_book::{Given, Line, Log, Parcel, Picked, Posted, Taken};
-use fp_digits::Moment;
-use fp_entry::Prepared;
-use fp_frames::Frame;
-use fp_hub::{Hints, Hub, Seat};
+use super::foreign::ForeignCall;
+use super::held::Held;
+use super::lines::LineCall;
+use super::link::LinkCall;
+use super::parcels::ParcelCall;
+use super::posting::PostCall;
+use super::shares::ShareCall;
+use super::turns::TurnCall;
+use fp_hub::{Hub, Seat};
 use fp_records::Table;
-use fp_row::Turn;
 use std::alloc::Global;
+use std::fmt::Write;
 use std::rt::Clock;
 use std::sync::Wait;
 use std::sync::ledger::Ledger;
-use std::thread;
 use std::thread::Threads;
-use std::time::{Duration, Instant};
 
-/// Noon of 6 May 2024.
-pub(super) const NOON: u64 = 1_714_996_800_000;
-
-/// What the calls of a walk answered, word by word.
+/// The words that a call answered, with blanks between.
 #[derive(Drop)]
 pub(super) struct Words {
     text: String,
@@ -34,30 +32,69 @@ impl Words {
         }
     }
 
-    /// Puts a word after the others.
+    /// Puts a word after the others. An empty one is none.
     pub(super) fn say(&mut self, word: &str) {
+        if !self.text.is_empty() && !word.is_empty() {
+            let _ = self.text.push_str(" ");
+        }
         let _ = self.text.push_str(word);
-        let _ = self.text.push_str(" ");
     }
 
-    /// Puts the words of another one after the others.
-    pub(super) fn add(&mut self, words: Words) {
-        let _ = self.text.push_str(words.text.as_str());
+    /// Puts a number right after the last word.
+    pub(super) fn add_number(&mut self, number: u64) {
+        let _ = write!(self.text, "{number}");
     }
-}
 
-/// The word for what became of a message.
-pub(super) fn word_of(posted: Posted) -> &'static str {
-    match posted {
-        Posted::Opened(_) => "opened",
-        Posted::Accepted(_) => "accepted",
-        Posted::Aborted(_) => "aborted",
-        Posted::Ended => "ended",
-        Posted::Discarded => "discarded",
+    /// The words.
+    pub(super) fn as_str(&self) -> &str {
+        self.text.as_str()
     }
 }
 
-/// What the thread has at hand.
+/// The first word of a text, and the rest after a blank.
+pub(super) fn first_word(text: &str) -> (&str, &str) {
+    match text.split_once(' ') {
+        Some(parts) => parts,
+        None => (text, ""),
+    }
+}
+
+/// The number of a text, 0 if it has none.
+pub(super) fn number(text: &str) -> usize {
+    text.parse().unwrap_or(0)
+}
+
+/// The milliseconds of a text, 0 if it has none.
+pub(super) fn milliseconds(text: &str) -> u64 {
+    text.parse().unwrap_or(0)
+}
+
+/// The call of a line, and the words that it must answer. `None`: the line isn't played.
+fn parts_of(line: &str, are_foreign_brought: bool) -> Option<(&str, &str)> {
+    let (mark, rest) = first_word(line);
+    let played = match mark {
+        "+" if !are_foreign_brought => return None,
+        "-" if are_foreign_brought => return None,
+        "#" => return None,
+        "+" => rest,
+        "-" => rest,
+        _ => line,
+    };
+    match played.split_once(" => ") {
+        Some(parts) => Some(parts),
+        None => Some((played, "")),
+    }
+}
+
+/// The text of a test about a line that answered other words.
+fn fault_text(alloc: Global, number: u32, line: &str, given: &str) -> String {
+    match format!(in alloc; "line {number}, {line}: it answered {given}") {
+        Ok(text) => text,
+        Err(_) => String::new(alloc),
+    }
+}
+
+/// The hub that a thread makes calls of, its seat there, and the words of a line.
 #[derive(Drop)]
 pub(super) struct Caller<'a, R: Wait + Clock, A: Ledger, B: Ledger, C: Ledger> {
     pub(super) rt: &'a R,
@@ -65,302 +102,66 @@ pub(super) struct Caller<'a, R: Wait + Clock, A: Ledger, B: Ledger, C: Ledger> {
     pub(super) hub: &'a Hub<A, B, C>,
     pub(super) seat: Seat<A, B, C>,
     pub(super) table: &'a Table,
-    /// The word of the last call that it made while another thread slept.
-    pub(super) last_word: &'static str,
+    /// The words that the calls of a line answered.
+    pub(super) words: Words,
 }
 
-impl<R: Wait + Clock, A: Ledger, B: Ledger, C: Ledger> Caller<'_, R, A, B, C> {
-    /// Posts a frame.
-    pub(super) fn post(&mut self, frame: Option<Frame>) -> &'static str {
-        let (Some(frame), Some(moment)) = (frame, Moment::new(NOON)) else {
-            return "no frame";
-        };
-        let came = Prepared::read(self.alloc, self.table, &[], frame, moment);
-        word_of(self.hub.post(self.rt, self.alloc, &mut self.seat, came))
+impl<
+    'a,
+    R: Threads + Wait + Clock + Sync,
+    A: Ledger + Send + Sync,
+    B: Ledger + Send + Sync,
+    C: Ledger + Send + Sync,
+> Caller<'a, R, A, B, C> {
+    /// Makes a call, and says its words.
+    pub(super) fn call(&mut self, call: &str, held: &mut Held) {
+        let (name, rest) = first_word(call);
+        let word = self.make_named(name, rest, held);
+        self.words.say(word);
     }
 
-    /// Posts so many messages that are discarded.
-    pub(super) fn post_many(&mut self, count: usize) -> &'static str {
-        for _ in 0..count {
-            if self.post(frame_of(self.alloc, UNIDIRECTIONAL)) != "discarded" {
-                return "else";
-            }
+    /// Makes the call of this name.
+    fn make_named(&mut self, name: &str, rest: &str, held: &mut Held) -> &'static str {
+        if let Some(call) = PostCall::of(name) {
+            return self.post_call(call, rest, held);
         }
-        "all discarded"
-    }
-
-    /// Serves a turn, and gives it back.
-    fn serve(&mut self, turn: Turn) -> &'static str {
-        let done = match turn.serve(self.alloc) {
-            Ok(done) => done,
-            Err(turn) => {
-                turn.abandon();
-                return "no memory";
-            }
-        };
-        match self.hub.give(self.rt, &mut self.seat, done) {
-            Ok(Given::Silent) => "silent",
-            Ok(Given::Queued(1)) => "queued",
-            Ok(Given::Queued(_)) => "all queued",
-            Ok(Given::Dropped(_)) => "dropped",
-            Err(foreign) => {
-                foreign.abandon();
-                "foreign"
-            }
+        if let Some(call) = TurnCall::of(name) {
+            return self.turn_call(call, rest);
         }
-    }
-
-    /// Takes the next turn, which has this position, and serves it or puts it back.
-    pub(super) fn turn(&mut self, position: u64, is_served: bool) -> &'static str {
-        match self.take(position) {
-            Ok(turn) => self.bring_back(turn, is_served),
-            Err(word) => word,
+        if let Some(call) = ShareCall::of(name) {
+            return self.share_call(call, rest, held);
+        }
+        if let Some(call) = ParcelCall::of(name) {
+            return self.parcel_call(call, rest, held);
+        }
+        if let Some(call) = LinkCall::of(name) {
+            return self.link_call(call, rest, held);
+        }
+        if let Some(call) = LineCall::of(name) {
+            return self.line_call(call, rest);
+        }
+        match ForeignCall::of(name) {
+            Some(call) => self.foreign_call(call, rest, held),
+            None => "no such call",
         }
     }
 
-    /// Takes the next turn, which has position 0, posts a malformed End, which closes the dialogue, and then serves
-    /// the turn or puts it back.
-    pub(super) fn turn_of_closed(&mut self, end: &str, is_served: bool) -> &'static str {
-        let turn = match self.take(0) {
-            Ok(turn) => turn,
-            Err(word) => return word,
-        };
-        if self.post(frame_of(self.alloc, end)) != "ended" {
-            turn.abandon();
-            return "not closed";
+    /// Makes the call of a line, or lets another thread sleep meanwhile.
+    fn make(self, call: &'a str, held: &mut Held) -> Self {
+        if let Some((sleep, acts)) = call.split_once(" | ") {
+            return self.act_while(sleep, acts);
         }
-        self.bring_back(turn, is_served)
-    }
-
-    /// Takes the next turn, which has this position.
-    fn take(&mut self, position: u64) -> Result<Turn, &'static str> {
-        let turn = match self.hub.take(self.rt) {
-            Taken::Turn(turn) => turn,
-            Taken::Nothing => return Err("nothing"),
-            Taken::NoRoom => return Err("no room"),
-            Taken::Memory => return Err("no memory"),
-        };
-        if turn.position() != position {
-            turn.abandon();
-            return Err("another position");
+        if call == "worker" {
+            return self.work(held);
         }
-        Ok(turn)
-    }
-
-    /// Serves a turn and gives it back, or puts it back.
-    fn bring_back(&mut self, turn: Turn, is_served: bool) -> &'static str {
-        if is_served {
-            return self.serve(turn);
-        }
-        match self.hub.put_back(self.rt, turn) {
-            Ok(()) => "back",
-            Err(foreign) => {
-                foreign.abandon();
-                "foreign"
-            }
-        }
-    }
-
-    /// Takes and serves turns until none is handed out.
-    pub(super) fn serve_all(&mut self) -> &'static str {
-        for _ in 0..100_000 {
-            match self.hub.take(self.rt) {
-                Taken::Turn(turn) => self.serve(turn),
-                Taken::Nothing => return "nothing",
-                Taken::NoRoom => return "no room",
-                Taken::Memory => return "no memory",
-            };
-        }
-        "else"
-    }
-
-    /// Picks what is sent next, and picks once more, which finds it out; then reports it sent or unsent.
-    pub(super) fn send(&mut self, is_sent: bool) -> &'static str {
-        let parcel = match self.pick() {
-            Ok(parcel) => parcel,
-            Err(word) => return word,
-        };
-        match self.hub.pick(self.rt) {
-            Picked::Parcel(other) => other.abandon(),
-            Picked::Busy | Picked::Nothing => {}
-        }
-        if is_sent {
-            self.report_sent(parcel)
-        } else {
-            self.report_unsent(parcel)
-        }
-    }
-
-    /// Picks what is sent next, and reports it sent or unsent this number of milliseconds later.
-    pub(super) fn send_late(&mut self, milliseconds: u64, is_sent: bool) -> &'static str {
-        let parcel = match self.pick() {
-            Ok(parcel) => parcel,
-            Err(word) => return word,
-        };
-        thread::sleep(self.rt, Duration::from_millis(milliseconds));
-        if is_sent {
-            self.report_sent(parcel)
-        } else {
-            self.report_unsent(parcel)
-        }
-    }
-
-    /// Awaits what is sent next, and reports it sent this number of milliseconds later.
-    pub(super) fn await_and_send_late(&mut self, milliseconds: u64) -> &'static str {
-        let Some(parcel) = self.hub.await_parcel(self.rt) else {
-            return "down";
-        };
-        thread::sleep(self.rt, Duration::from_millis(milliseconds));
-        self.report_sent(parcel)
-    }
-
-    /// Picks what is sent next.
-    pub(super) fn pick(&mut self) -> Result<Parcel, &'static str> {
-        match self.hub.pick(self.rt) {
-            Picked::Parcel(parcel) => Ok(parcel),
-            Picked::Busy => Err("busy"),
-            Picked::Nothing => Err("nothing"),
-        }
-    }
-
-    /// Reports a parcel sent.
-    pub(super) fn report_sent(&mut self, parcel: Parcel) -> &'static str {
-        match self.hub.sent(self.rt, &mut self.seat, parcel) {
-            Ok(()) => "sent",
-            Err(foreign) => {
-                foreign.abandon();
-                "foreign"
-            }
-        }
-    }
-
-    /// Reports that a parcel couldn't be sent.
-    pub(super) fn report_unsent(&mut self, parcel: Parcel) -> &'static str {
-        match self.hub.unsent(self.rt, parcel) {
-            Ok(()) => "unsent",
-            Err(foreign) => {
-                foreign.abandon();
-                "foreign"
-            }
-        }
-    }
-
-    /// Awaits what is sent next, and reports it sent.
-    pub(super) fn await_and_send(&mut self) -> &'static str {
-        let Some(parcel) = self.hub.await_parcel(self.rt) else {
-            return "down";
-        };
-        self.report_sent(parcel)
-    }
-
-    /// So many milliseconds after noon, one dialogue is given a Clock.
-    pub(super) fn tick(&self, milliseconds: u64) -> &'static str {
-        let Some(moment) = Moment::new(NOON.saturating_add(milliseconds)) else {
-            return "no moment";
-        };
-        let ticked = self.hub.tick(self.rt, moment);
-        match (ticked.added, ticked.wanting) {
-            (0, 0) => "none due",
-            (1, 0) => "one due",
-            _ => "else",
-        }
-    }
-
-    /// Whether the link is down.
-    pub(super) fn state(&self) -> &'static str {
-        if self.hub.is_down(self.rt) {
-            "down"
-        } else {
-            "up"
-        }
-    }
-
-    /// Rests so many milliseconds at most: whether it did, or was woken.
-    pub(super) fn rest(&self, milliseconds: u64) -> &'static str {
-        let time = Duration::from_millis(milliseconds);
-        let Ok(start) = Instant::now(self.rt) else {
-            return "no clock";
-        };
-        self.hub.rest(self.rt, time);
-        match start.elapsed(self.rt) {
-            Ok(spent) if spent < time => "woken",
-            Ok(_) => "rested",
-            Err(_) => "no clock",
-        }
-    }
-
-    /// Hints to a worker: whether it may.
-    pub(super) fn hint(&self) -> &'static str {
-        if self.hub.hint(self.rt) {
-            "hint"
-        } else {
-            "no hint"
-        }
-    }
-
-    /// Waits for a hint as a worker: whether there was one, or the hub is closed.
-    pub(super) fn await_hint(&self, hints: &Hints) -> &'static str {
-        if hints.wait(self.rt) {
-            "hinted"
-        } else {
-            "closed"
-        }
-    }
-
-    /// How full the log is.
-    pub(super) fn fullness(&self) -> &'static str {
-        match (self.hub.is_log_filling(), self.hub.is_log_nearly_full()) {
-            (false, false) => "not filling",
-            (true, false) => "filling",
-            (true, true) => "nearly full",
-            (false, true) => "else",
-        }
-    }
-
-    /// How many lines the log has, roughly.
-    pub(super) fn amount(&self) -> &'static str {
-        match (self.hub.has_log_lines(), self.hub.is_log_long()) {
-            (false, false) => "few",
-            (true, false) => "some",
-            (true, true) => "long",
-            (false, true) => "else",
-        }
-    }
-
-    /// Exchanges the log of link 3, which has so many lines, for an empty one.
-    pub(super) fn exchange(&self, line_count: usize) -> &'static str {
-        let Ok(mut log) = Log::new(self.alloc) else {
-            return "no memory";
-        };
-        let link = self.hub.exchange_log(self.rt, &mut log);
-        if link == 3 && log.len() == line_count {
-            "exchanged"
-        } else {
-            "else"
-        }
-    }
-
-    /// Drains the log, which has so many lines.
-    pub(super) fn drain(&self, line_count: usize) -> &'static str {
-        self.drain_into(Log::MOST, line_count)
-    }
-
-    /// Drains the log into a list with so many places, of which so many are taken then.
-    pub(super) fn drain_into(&self, place_count: usize, line_count: usize) -> &'static str {
-        let Ok(mut lines) = Vec::<Line>::with_capacity(self.alloc, place_count) else {
-            return "no memory";
-        };
-        self.hub.drain(self.rt, &mut lines);
-        if lines.len() == line_count {
-            "drained"
-        } else {
-            "else"
-        }
+        let mut caller = self;
+        caller.call(call, held);
+        caller
     }
 }
 
-/// Makes the calls of a walk, and gives their words and the seat.
-pub(crate) fn make_walk<
+/// Plays the script of a walk, up to the first line that answers other words. Gives a text about that line, and the seat.
+pub(super) fn play<
     'x,
     R: Threads + Wait + Clock + Sync,
     A: Ledger + Send + Sync,
@@ -373,36 +174,33 @@ pub(crate) fn make_walk<
     seat: Seat<A, B, C>,
     table: &'x Table,
     walk: Walk,
-) -> (String, Seat<A, B, C>) {
-    let mut words = Words::new(alloc);
+) -> (Option<String>, Seat<A, B, C>) {
+    let Some(mut held) = Held::new(alloc) else {
+        return (Some(String::new(alloc)), seat);
+    };
     let mut caller = Caller {
         rt,
         alloc,
         hub,
         seat,
         table,
-        last_word: "",
+        words: Words::new(alloc),
     };
-    match walk {
-        Walk::EachCall => {
-            caller.make_calls(&mut words);
-            caller.rest_often(16, &mut words);
+    let mut fault = None;
+    let mut number: u32 = 0;
+    for line in walk.script.lines() {
+        number = number.saturating_add(1);
+        let Some((call, wanted)) = parts_of(line, walk.are_foreign_brought) else {
+            continue;
+        };
+        caller.words = Words::new(alloc);
+        caller = caller.make(call, &mut held);
+        if caller.words.as_str() != wanted {
+            fault = Some(fault_text(alloc, number, line, caller.words.as_str()));
+            break;
         }
-        Walk::AllPlaces(service) => caller.fill_places(service, &mut words),
-        Walk::Hints => caller.hint_workers(&mut words),
-        Walk::Several => caller.make_several(&mut words),
-        Walk::Foreign(are_brought) => caller.make_among_foreign(are_brought, &mut words),
-        Walk::Helps => caller.help_with_some(&mut words),
-        Walk::ServesInPlace => caller.serve_in_place(&mut words),
-        Walk::Closes => caller = caller.serve_and_close(&mut words),
-        Walk::SendsAbort => caller = caller.wake_sender(true, &mut words),
-        Walk::SendsAnswer => caller = caller.wake_sender(false, &mut words),
-        Walk::Holds => caller.hold_back(&mut words),
-        Walk::Wakes => caller = caller.wake(&mut words),
-        Walk::WakesInTime => caller = caller.wake_in_time(&mut words),
-        Walk::Downs(sleep) => caller = caller.go_down(sleep, &mut words),
     }
+    held.abandon();
     let Caller { seat, .. } = caller;
-    let Words { text } = words;
-    (text, seat)
+    (fault, seat)
 }

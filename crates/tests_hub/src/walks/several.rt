@@ -1,281 +1,239 @@
-//! Calls of several steps, each made in one hold of the lock: messages that are posted, turns that are given and taken.
+//! Walks by calls of several steps, each made in one hold of the lock.
 
-use super::caller::{Caller, NOON, Words};
-use crate::messages::{REJECT, STRANGE, UNIDIRECTIONAL, begin, frame_of};
-use fp_book::{Line, Log, LoggedStep};
-use fp_digits::Moment;
-use fp_entry::Prepared;
-use fp_frames::Frame;
-use fp_hub::{Stopped, Work, abandon_all};
-use std::alloc::Global;
-use std::collections::VecDeque;
-use std::rt::Clock;
-use std::sync::Wait;
-use std::sync::ledger::Ledger;
-use std::thread::Threads;
+use super::{WALK, Walk, assert_walk};
+use fp_book::Totals;
+use std::test::Fail;
 
-/// How many turns a list has room for.
-pub(super) const MOST_TURNS: usize = 32;
+/// Lists of messages, and in one of them a message that is held back. The turns of five dialogues, in the holds of one
+/// to three workers: the turn of the first dialogue has 49 entries, and follows the turn of the second one. And parcels,
+/// in the end while the link goes down.
+const SEVERAL: &str = "\
+adds 70 unidirectional
+front => six
+drain 64 => drained
+front => none
+offer empty => opened
+turn 0 => silent
+offers 4 rejects => all accepted
+# the other six messages that are discarded, and the five messages and the turn of this dialogue
+drain 13 => drained
+add 2B
+add reject
+begins 2C 3
+front => four
+front => four
+turn 1 => silent
+front => none
+share 2 32 => two three silent enough
+share 2 32 => two three silent enough
+serve
+share 1 2 => two one queued enough
+serve
+share 3 1 => one none queued enough
+serve
+share 1 0 => none one silent enough
+share 1 32 => one none silent enough
+serve
+share 1 32 => one none silent enough
+serve
+share 1 32 => one none silent enough
+serve
+pick => picked
+in-hold => sent
+in-hold => sent
+in-hold => sent
+in-hold => sent nothing
+share 1 0 => none none silent enough
+share 1 32 => none none silent nothing
+add unidirectional
+add strange
+add unidirectional
+front => aborted none
+pick => picked
+down
+in-hold => sent down
+log => P T1 G1 P P P P T2 T1 B2 B1 T3 T4 G3 G4 T5 T2 G5 G2 T1 G1 T1 G1 T1 G1 T1 Q3 Y3 Q4 Y4 Q5 Y5 Q2 Y2 G1 P P P Q0 N Y0
+";
 
-/// The word for a number.
-pub(super) fn number_word(number: usize) -> &'static str {
-    match number {
-        0 => "none",
-        1 => "one",
-        2 => "two",
-        3 => "three",
-        4 => "four",
-        5 => "five",
-        6 => "six",
-        8 => "eight",
-        13 => "thirteen",
-        40 => "forty",
-        _ => "else",
-    }
-}
-
-/// The word for why no more turns were taken, or served in their places.
-pub(super) fn stop_word(stopped: Stopped) -> &'static str {
-    match stopped {
-        Stopped::Enough => "enough",
-        Stopped::Nothing => "nothing",
-        Stopped::NoRoom => "no room",
-        Stopped::Memory => "no memory",
-    }
-}
-
-/// Says the letter of a step, and the birth of its dialogue if it names one.
-fn say_step(alloc: Global, step: &LoggedStep, words: &mut Words) {
-    let (letter, birth) = match step {
-        LoggedStep::Take { birth, .. } => ("T", *birth),
-        LoggedStep::Give { birth, .. } => ("G", *birth),
-        LoggedStep::PutBack { birth, .. } => ("B", *birth),
-        LoggedStep::Pick { birth } => ("Q", *birth),
-        LoggedStep::Sent { birth } => ("Y", *birth),
-        LoggedStep::Post { .. } => {
-            words.say("P");
-            return;
-        }
-        LoggedStep::Down => {
-            words.say("N");
-            return;
-        }
-        _ => {
-            words.say("else");
-            return;
-        }
+/// A call of several steps makes them in their order, as the log says: of a list of messages at most 64 are posted, and
+/// none from the first on that is held back, and the call says if an Abort of the provider answers one of them; turns
+/// come back, served or not, before the share of a worker is taken, and no more than it asks for; and the parcel that
+/// is picked after one was sent is the next one, unless the link is down.
+#[test]
+fn holds_make_several_steps(rt: HostRuntime) -> Result<(), Fail> {
+    let walk = Walk {
+        script: SEVERAL,
+        totals: Totals {
+            accepted: 69,
+            served: 74,
+            sent: 4,
+        },
+        ..WALK
     };
-    match format!(in alloc; "{letter}{birth}") {
-        Ok(word) => words.say(word.as_str()),
-        Err(_) => words.say("no memory"),
-    }
+    assert_walk(&rt, rt.alloc(), walk)
 }
 
-impl<
-    'a,
-    R: Threads + Wait + Clock + Sync,
-    A: Ledger + Send + Sync,
-    B: Ledger + Send + Sync,
-    C: Ledger + Send + Sync,
-> Caller<'a, R, A, B, C> {
-    /// Puts what a frame is prepared to at the end of a list.
-    pub(super) fn add(&self, came: &mut VecDeque<Prepared>, frame: Option<Frame>) {
-        let (Some(frame), Some(moment)) = (frame, Moment::new(NOON)) else {
-            return;
+/// Five turns and four parcels, the last one after the link went down, among foreign ones or not. The foreign parcel
+/// that is reported in a hold is the same as the first one, which was sent.
+const FOREIGN: &str = "\
+post empty => opened
+turn 0 => silent
+post 2A => opened
+post reject => accepted
+post 2B => opened
+post 2C => opened
+post 2D => opened
+share 1 32 => five none silent enough
+serve
++ foreign-turns => none none silent enough eight
++ mix => thirteen
+share 1 0 => none none queued enough
++ foreign-turns => none none silent enough eight
+pick => picked
++ foreign-parcels 1 2A => foreign nothing foreign foreign
++ foreign-parcels 0 77 => foreign nothing foreign foreign
+in-hold => sent
++ foreign-parcels 0 2A => foreign nothing foreign foreign
+report => sent
++ foreign-in-hold 0 2A => foreign
+- pick => picked
+in-hold => sent
+state => up
+down
++ foreign-parcels 1 2A => foreign down foreign foreign
+in-hold => sent down
+log => P T1 G1 P P P P P T2 T1 T3 T4 T5 G2 G1 G3 G4 G5 Q2 Y2 Q3 Y3 Q4 Y4 Q5 N Y5
+";
+
+/// Turns and parcels that aren't out change nothing, are neither counted nor logged, and don't keep the others from
+/// going through: two turns of another link, one that was given before and one of a dialogue whose turn is out, served
+/// or not, which are dropped if they come back with others, and come back if each comes alone; and parcels of another
+/// link, of a dialogue whose parcel is out, and one that was sent before, while another one is out, none is, or the
+/// link is down. All else is as without them.
+#[test]
+fn foreign_ones_change_nothing(rt: HostRuntime) -> Result<(), Fail> {
+    for are_foreign_brought in [false, true] {
+        let walk = Walk {
+            are_foreign_brought,
+            script: FOREIGN,
+            totals: Totals {
+                accepted: 5,
+                served: 10,
+                sent: 4,
+            },
+            ..WALK
         };
-        let _ = came.push_back(Prepared::read(self.alloc, self.table, &[], frame, moment));
+        assert_walk(&rt, rt.alloc(), walk)?;
     }
+    Ok(())
+}
 
-    /// Posts messages from the front of a list, and tells the sending thread if an Abort of the provider answers one of
-    /// them: whether one does.
-    fn post_and_tell(&mut self, came: &mut VecDeque<Prepared>) -> bool {
-        let is_aborted = self
-            .hub
-            .post_front(self.rt, self.alloc, &mut self.seat, came);
-        if is_aborted {
-            self.hub.tell_sender();
-        }
-        is_aborted
-    }
+/// Help with fewer turns than are ready, with none, and with all of them: a worker is hinted if some are left, and two
+/// of three workers if two are.
+const HELP: &str = "\
+hints 1
+begins 0 3
+front => none
+help 2 => queued
+hinted 0 => hinted
+turn 0 => queued
+turn 0 => nothing
+begins 0 1
+front => none
+help 0 => silent
+hinted 0 => hinted
+turn 0 => queued
+begins 0 3
+front => none
+help 3 => queued
+turn 0 => nothing
+hints 2
+begins 0 2
+front => none
+help 0 => silent
+close
+hinted 0 => hinted
+hinted 0 => hinted
+hinted 0 => closed
+turn 0 => queued
+turn 0 => queued
+# of each call the message, and its turn that goes out and comes back
+drain 27 => drained
+";
 
-    /// Posts messages from the front of a list: whether an Abort of the provider answers one of them, and how many are
-    /// left.
-    pub(super) fn post_front(&mut self, came: &mut VecDeque<Prepared>, words: &mut Words) {
-        if self.post_and_tell(came) {
-            words.say("aborted");
-        }
-        words.say(number_word(came.len()));
-    }
+/// Who helps serves at most as many turns as it may, and hints to as many workers as it leaves turns, and not else.
+#[test]
+fn help_has_its_bound(rt: HostRuntime) -> Result<(), Fail> {
+    let walk = Walk {
+        script: HELP,
+        totals: Totals {
+            accepted: 9,
+            served: 18,
+            sent: 0,
+        },
+        ..WALK
+    };
+    assert_walk(&rt, rt.alloc(), walk)
+}
 
-    /// Gives back the turns of a list, and takes at most so many as one of so many workers: how many it took, how many
-    /// are still ready, whether a frame was queued, and why it took no more.
-    pub(super) fn give_and_take(
-        &mut self,
-        work: &mut VecDeque<Work>,
-        workers: usize,
-        most: usize,
-        words: &mut Words,
-    ) {
-        let worked = self
-            .hub
-            .give_and_take(self.rt, &mut self.seat, work, workers, most);
-        words.say(number_word(work.len()));
-        words.say(number_word(worked.ready_count));
-        words.say(if worked.is_queued { "queued" } else { "silent" });
-        words.say(stop_word(worked.stopped));
-    }
+/// The turns of 40 calls, served in several holds; then the turns of two calls, served in one.
+const IN_PLACE: &str = "\
+begins 0 40
+front => none
+serve-in-place 0 => forty silent enough
+serve-in-place 64 => eight queued enough
+serve-in-place 3 => five queued enough
+serve-in-place 5 => none queued enough
+serve-in-place 1 => none silent nothing
+# of each call the message, and its turn that goes out and comes back
+drain 120 => drained
+begins 28 2
+front => none
+serve-in-place 64 => none queued nothing
+log => P P T41 G41 T42 G42
+";
 
-    /// Says which lines the log has, in their order, and drains it: the letter of each step, and the number of its
-    /// dialogue if it names one.
-    pub(super) fn say_lines(&self, words: &mut Words) {
-        let Ok(mut lines) = Vec::<Line>::with_capacity(self.alloc, Log::MOST) else {
-            return;
-        };
-        self.hub.drain(self.rt, &mut lines);
-        for line in &lines {
-            if let Line::Step { step, .. } = line {
-                say_step(self.alloc, step, words);
-            }
-        }
-    }
+/// Turns are served in their places, each taken and given before the next one, as the log says: none, as many as a hold
+/// serves at most, fewer than are ready, just as many, and all; and the call says how many are still ready.
+#[test]
+fn turns_are_served_in_their_places(rt: HostRuntime) -> Result<(), Fail> {
+    let walk = Walk {
+        script: IN_PLACE,
+        totals: Totals {
+            accepted: 42,
+            served: 84,
+            sent: 0,
+        },
+        ..WALK
+    };
+    assert_walk(&rt, rt.alloc(), walk)
+}
 
-    /// Serves the turns of a list.
-    pub(super) fn serve_each(&self, work: &mut VecDeque<Work>) {
-        for _ in 0..work.len() {
-            let served = match work.pop_front() {
-                Some(Work::Unserved(turn)) => match turn.serve(self.alloc) {
-                    Ok(done) => Work::Served(done),
-                    Err(turn) => Work::Unserved(turn),
-                },
-                Some(Work::Served(done)) => Work::Served(done),
-                None => return,
-            };
-            work.push_back_reserved(served);
-        }
-    }
+/// Forty calls, which a worker serves whose hub is closed when the first turn passes its gate.
+const CLOSED: &str = "\
+begins 0 40
+front => none
+hints 1
+hint => hint
+worker
+hint => no hint
+sends 40 => all sent
+quiet 0 => quiet
+# of each call the message, its turn that goes out and comes back, and the frame that is picked and sent
+drain 200 => drained
+";
 
-    /// Takes, serves and gives one turn in holds that may take and give several.
-    pub(super) fn give_one_of_several(&mut self) -> &'static str {
-        let Ok(mut work) = VecDeque::with_capacity(self.alloc, MOST_TURNS) else {
-            return "no memory";
-        };
-        self.hub
-            .give_and_take(self.rt, &mut self.seat, &mut work, 1, 1);
-        self.serve_each(&mut work);
-        self.hub
-            .give_and_take(self.rt, &mut self.seat, &mut work, 1, 0);
-        abandon_all(work);
-        "given"
-    }
-
-    /// Takes one turn, closes its dialogue by a malformed End, and gives the turn, served, or puts it back, in holds
-    /// that may take and give several.
-    pub(super) fn turn_of_several(&mut self, end: &str, is_served: bool) -> &'static str {
-        let Ok(mut work) = VecDeque::with_capacity(self.alloc, MOST_TURNS) else {
-            return "no memory";
-        };
-        self.hub
-            .give_and_take(self.rt, &mut self.seat, &mut work, 1, 1);
-        let is_closed = self.post(frame_of(self.alloc, end)) == "ended";
-        if is_served {
-            self.serve_each(&mut work);
-        }
-        let worked = self
-            .hub
-            .give_and_take(self.rt, &mut self.seat, &mut work, 1, 0);
-        abandon_all(work);
-        match (is_closed, worked.is_queued, is_served) {
-            (false, _, _) => "not closed",
-            (true, true, _) => "queued",
-            (true, false, true) => "given",
-            (true, false, false) => "back",
-        }
-    }
-
-    /// Takes, serves and gives turns in holds that take and give several, until none is handed out.
-    pub(super) fn serve_all_of_several(&mut self) -> &'static str {
-        let Ok(mut work) = VecDeque::with_capacity(self.alloc, MOST_TURNS) else {
-            return "no memory";
-        };
-        let mut word = "else";
-        for _ in 0..100_000 {
-            let worked = self
-                .hub
-                .give_and_take(self.rt, &mut self.seat, &mut work, 1, MOST_TURNS);
-            if work.is_empty() {
-                word = stop_word(worked.stopped);
-                break;
-            }
-            self.serve_each(&mut work);
-        }
-        abandon_all(work);
-        word
-    }
-
-    /// Posts messages of these texts in one hold, and tells the sending thread if an Abort of the provider answers one
-    /// of them.
-    pub(super) fn post_list(&mut self, texts: &[&str]) {
-        let mut came = VecDeque::new(self.alloc);
-        for text in texts {
-            self.add(&mut came, frame_of(self.alloc, text));
-        }
-        self.post_and_tell(&mut came);
-    }
-
-    /// Posts lists of messages, one of which has a message that is held back; takes and gives turns in the holds of one
-    /// to three workers; and sends, in the end while the link goes down. Says what the log has from the first list with
-    /// a Begin on.
-    pub(super) fn make_several(&mut self, words: &mut Words) {
-        let alloc = self.alloc;
-        let mut came = VecDeque::new(alloc);
-        for _ in 0..70 {
-            self.add(&mut came, frame_of(alloc, UNIDIRECTIONAL));
-        }
-        self.post_front(&mut came, words);
-        words.say(self.drain(64));
-        self.post_front(&mut came, words);
-        self.open_full_dialogue(words);
-        // The other six messages that are discarded, and the five messages and the turn of this dialogue.
-        words.say(self.drain(13));
-        self.add(&mut came, begin(alloc, 0x2B));
-        self.add(&mut came, frame_of(alloc, REJECT));
-        for identifier in 0x2C..0x2F {
-            self.add(&mut came, begin(alloc, identifier));
-        }
-        self.post_front(&mut came, words);
-        self.post_front(&mut came, words);
-        words.say(self.turn(1, true));
-        self.post_front(&mut came, words);
-        self.work_in_shares(words);
-        for text in [UNIDIRECTIONAL, STRANGE, UNIDIRECTIONAL] {
-            self.add(&mut came, frame_of(alloc, text));
-        }
-        self.post_front(&mut came, words);
-        self.send_each(true, words);
-        self.say_lines(words);
-    }
-
-    /// Takes, serves and gives back turns of five dialogues, the first of which has 49 entries and comes after the
-    /// second one; puts two of the turns back; and sends before it gives back the last one, after which none is ready.
-    fn work_in_shares(&mut self, words: &mut Words) {
-        let Ok(mut work) = VecDeque::with_capacity(self.alloc, MOST_TURNS) else {
-            return;
-        };
-        self.give_and_take(&mut work, 2, MOST_TURNS, words);
-        self.give_and_take(&mut work, 2, MOST_TURNS, words);
-        self.serve_each(&mut work);
-        self.give_and_take(&mut work, 1, 2, words);
-        self.serve_each(&mut work);
-        self.give_and_take(&mut work, 3, 1, words);
-        self.serve_each(&mut work);
-        self.give_and_take(&mut work, 1, 0, words);
-        for _ in 0..3 {
-            self.give_and_take(&mut work, 1, MOST_TURNS, words);
-            self.serve_each(&mut work);
-        }
-        self.send_each(false, words);
-        self.give_and_take(&mut work, 1, 0, words);
-        self.give_and_take(&mut work, 1, MOST_TURNS, words);
-        abandon_all(work);
-    }
+/// A worker that has many turns when its hub is closed serves them and gives them back, and those that were ready too.
+#[test]
+fn closed_worker_gives_back_its_turns(rt: HostRuntime) -> Result<(), Fail> {
+    let walk = Walk {
+        script: CLOSED,
+        totals: Totals {
+            accepted: 40,
+            served: 80,
+            sent: 40,
+        },
+        ..WALK
+    };
+    assert_walk(&rt, rt.alloc(), walk)
 }
