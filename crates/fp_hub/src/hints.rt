@@ -1,7 +1,5 @@
 //! Hints to workers that there may be a turn to take.
 
-use crate::Looks;
-use crate::waiting::{Looking, await_hint};
 use crossbeam_channel::{Receiver, Sender, unbounded};
 use std::alloc::{AllocError, Global};
 use std::sync::atomic::{AtomicBool, AtomicUsize, Ordering};
@@ -11,14 +9,13 @@ use std::sync::{Mutex, Wait};
 #[derive(Drop)]
 pub struct Hints {
     receiver: Receiver<()>,
-    looking: Looking,
 }
 
 impl Hints {
     /// Waits for a hint, and takes it, as [`worker`](crate::worker) does before it takes turns. `false` if the hub is
     /// closed and no hint waits.
     pub fn wait<R: Wait>(&self, rt: &R) -> bool {
-        await_hint(rt, &self.receiver, &self.looking)
+        self.receiver.recv(rt).is_ok()
     }
 }
 
@@ -35,20 +32,17 @@ pub(crate) struct HintChannel {
     receiver: Receiver<()>,
     // How many ends were given to workers.
     workers: AtomicUsize,
-    // How often a worker looks before it sleeps.
-    looks: Looks,
 }
 
 impl HintChannel {
     /// An open channel that no worker listens to yet.
-    pub(crate) fn new(alloc: Global, looks: Looks) -> Result<HintChannel, AllocError> {
+    pub(crate) fn new(alloc: Global) -> Result<HintChannel, AllocError> {
         let (sender, receiver) = unbounded(alloc)?;
         Ok(HintChannel {
             is_open: AtomicBool::new(true),
             sender: Mutex::new(Some(sender)),
             receiver,
             workers: AtomicUsize::new(0),
-            looks,
         })
     }
 
@@ -56,10 +50,7 @@ impl HintChannel {
     pub(crate) fn listen(&self) -> Result<Hints, AllocError> {
         let receiver = self.receiver.clone()?;
         self.workers.fetch_add(1, Ordering::SeqCst);
-        Ok(Hints {
-            receiver,
-            looking: Looking::new(self.looks),
-        })
+        Ok(Hints { receiver })
     }
 
     /// How many workers have an end, at least one. The same number of hints may wait.

@@ -13,8 +13,7 @@ use crate::resting::{
     LINES_OF_A_FILLING_LOG, LINES_OF_A_LONG_LOG, LINES_OF_A_NEARLY_FULL_LOG, LINES_OF_A_TEXT,
     Resting,
 };
-use crate::waiting::Looking;
-use crate::{AfterTick, Hints, Kept, Looks, Seat};
+use crate::{AfterTick, Hints, Kept, Seat};
 use crossbeam_utils::CachePadded;
 use fp_book::{Given, Line, Log, Parcel, Picked, Posted, Status, Taken, Ticked};
 use fp_digits::Moment;
@@ -35,21 +34,17 @@ use std::time::Duration;
 #[derive(Drop)]
 pub struct Hub<A: Ledger, B: Ledger, C: Ledger> {
     kept: Mutex<Kept<A, B, C>>,
-    // How often the sending thread looks again before it sleeps. Each field that threads write without the lock has
-    // cache lines of its own, so that they don't wait for each other's.
-    looking: CachePadded<Looking>,
-    // There may be a parcel to pick, or the link went down, since this was last looked at.
-    is_moved: CachePadded<AtomicBool>,
-    // The sending thread sleeps here until then.
+    // The sending thread sleeps here until there may be a parcel to pick, or the link goes down. Each field that threads
+    // write without the lock has cache lines of its own, so that they don't wait for each other's.
     moved: CachePadded<Condvar>,
-    // A thread may sleep until there is room, or quiet. It is set and cleared under the lock, so that a thread that
-    // looked and found neither misses no call after its look.
+    // Set while a thread may sleep until there is room, or quiet. It is set and cleared under the lock, so that a
+    // thread that looked and found neither misses no call after its look.
     awaits_room: CachePadded<AtomicBool>,
     // The threads that await room or quiet sleep here until a turn is given or put back, a parcel is handed out or
     // reported, or the link goes down.
     room_came: CachePadded<Condvar>,
     hints: CachePadded<HintChannel>,
-    // A take found no place for a frame, and no worker was hinted for it since.
+    // Set when a take found no place for a frame, until a worker is hinted for it.
     lacks_room: CachePadded<AtomicBool>,
     resting: CachePadded<Resting>,
 }
@@ -60,8 +55,8 @@ fn take_mark(mark: &AtomicBool) -> bool {
 }
 
 impl<A: Ledger, B: Ledger, C: Ledger> Hub<A, B, C> {
-    /// The hub of a link, 0 to 7, which is up, and its first seat, which has all parts. Its threads sleep at once if
-    /// they find no work. If memory runs out, the blanks are spent. The run has no tag.
+    /// The hub of a link, 0 to 7, which is up, and its first seat, which has all parts. If memory runs out, the
+    /// blanks are spent. The run has no tag.
     pub fn new(
         alloc: Global,
         link: u8,
@@ -71,16 +66,14 @@ impl<A: Ledger, B: Ledger, C: Ledger> Hub<A, B, C> {
         requires blanks { AreBlanks blanks A.name A.parts B.name B.parts C.name C.parts }
         ensures { IfOk result (λ made. made.1 ≡ blank 64) }
     {
-        Self::with_tag(alloc, link, 0, Looks::FEW, blanks)
+        Self::with_tag(alloc, link, 0, blanks)
     }
 
-    /// The hub of a link, as [`Hub::new`], in a run with this tag, 0 to 4,094. Its threads look again as often as
-    /// `looks` says before they sleep.
+    /// The hub of a link, as [`Hub::new`], in a run with this tag, 0 to 4,094.
     pub fn with_tag(
         alloc: Global,
         link: u8,
         tag: u16,
-        looks: Looks,
         blanks: (Blank, Blank, Blank),
     ) -> Result<(Hub<A, B, C>, Seat<A, B, C>), AllocError>
         requires link { link < LocalIds.LINKS }
@@ -88,12 +81,10 @@ impl<A: Ledger, B: Ledger, C: Ledger> Hub<A, B, C> {
         requires blanks { AreBlanks blanks A.name A.parts B.name B.parts C.name C.parts }
         ensures { IfOk result (λ made. made.1 ≡ blank 64) }
     {
-        let hints = HintChannel::new(alloc, looks)?;
+        let hints = HintChannel::new(alloc)?;
         let (kept, seat) = Kept::new(alloc, link, tag, blanks)?;
         let hub = Hub {
             kept: Mutex::new(kept),
-            looking: CachePadded::new(Looking::new(looks)),
-            is_moved: CachePadded::new(AtomicBool::new(false)),
             moved: CachePadded::new(Condvar::new()),
             awaits_room: CachePadded::new(AtomicBool::new(false)),
             room_came: CachePadded::new(Condvar::new()),
@@ -120,7 +111,6 @@ impl<A: Ledger, B: Ledger, C: Ledger> Hub<A, B, C> {
 
     /// Wakes the sending thread: there may be a parcel to pick, or the link went down.
     pub fn tell_sender(&self) {
-        self.is_moved.store(true, Ordering::SeqCst);
         self.moved.notify_all();
     }
 
@@ -303,7 +293,7 @@ impl<A: Ledger, B: Ledger, C: Ledger> Hub<A, B, C> {
         self.resting.has_reached(LINES_OF_A_TEXT)
     }
 
-    /// Whether at least 1,024 log lines wait, so many that they are moved in portions and not exchanged.
+    /// Whether at least 1,024 log lines wait. Then they are moved in portions instead of exchanged.
     pub fn is_log_long(&self) -> bool {
         self.resting.has_reached(LINES_OF_A_LONG_LOG)
     }
@@ -319,8 +309,8 @@ impl<A: Ledger, B: Ledger, C: Ledger> Hub<A, B, C> {
         self.hints.worker_count()
     }
 
-    /// Hints to a worker that there may be a turn to take. No hint is added if as many wait already as the link has
-    /// workers. `false` if the hub is closed, or memory ran out. Doesn't take the lock of the link.
+    /// Hints to a worker that there may be a turn to take. No hint is added if one already waits for each worker of the
+    /// link. `false` if the hub is closed, or memory ran out. Doesn't take the lock of the link.
     pub fn hint<R: Wait>(&self, rt: &R) -> bool {
         self.hints.hint(rt)
     }

@@ -290,7 +290,8 @@ impl<A: Ledger, B: Ledger, C: Ledger> Kept<A, B, C> {
         }
     }
 
-    /// The totals, once the seat has all parts: they are its amounts. Changes neither.
+    /// The totals. You must pass the seat with all parts: then the totals are its amounts. Changes neither the book nor
+    /// the seat.
     pub fn last(&mut self, seat: &mut Seat<A, B, C>) -> Totals
         requires whole { Whole A.parts B.parts C.parts }
         requires all { seat.old.parts ≡ 64 }

@@ -44,8 +44,7 @@
 //!
 //! Each of them waits for the lock too, which is held for a bounded number of calls of the book (64 posts, 32 turns
 //! taken back and 32 handed out, 32 served in their places), never while a worker serves a turn, and never while a
-//! frame is sent. For a hint and a parcel each looks again a number of times before it sleeps ([`Looks`]), by the
-//! number of threads and of processors and by the success of its looks before (`src/waiting.rt`).
+//! frame is sent.
 //!
 //! The layer above may rely on this. The book under a lock is sound at each hold (`Sound` of `fp_book`), and each call
 //! of [`Kept`] changes it as the book's call does; one of several steps changes it by the chain of these
@@ -68,7 +67,6 @@ mod next;
 mod resting;
 mod seat;
 mod tables;
-mod waiting;
 mod work;
 mod workers;
 
@@ -82,6 +80,5 @@ pub use next::{Next, SentAndNext};
 pub use resting::{LINES_OF_A_REST, LINES_OF_A_TEXT};
 pub use seat::{PARTS, Seat};
 pub use tables::Tables;
-pub use waiting::Looks;
 pub use work::{Stopped, Work, Worked};
 pub use workers::abandon_all;

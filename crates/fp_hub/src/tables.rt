@@ -105,7 +105,7 @@ impl Tables {
         let newest = match Arc::new(self.alloc, table.numbered(index)) {
             Ok(newest) => newest,
             Err(refused) => {
-                // Its rules are freed with no lock held.
+                // The rules of the refused table are freed with no lock held.
                 drop(versions);
                 drop(refused);
                 return None;

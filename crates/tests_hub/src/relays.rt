@@ -8,7 +8,7 @@ mod senders;
 use crate::messages::{RECORDS, STRANGE_ANSWER, answer};
 use crate::{EACH_ONCE, SecondFirst};
 use fp_book::Totals;
-use fp_hub::{Gate, Looks, OpenGate};
+use fp_hub::{Gate, OpenGate};
 use fp_records::Table;
 use link::{Relayed, relay};
 use plan::{Marks, Plan, Sending};
@@ -22,7 +22,6 @@ use std::thread;
 const PLAN: Plan = Plan {
     link: 0,
     workers: 2,
-    looks: Looks::MANY,
     sending: Sending::Picks,
     is_hinted_once: false,
     is_one_hold: false,
@@ -215,7 +214,6 @@ fn links_keep_apart(rt: HostRuntime) -> Result<(), Fail> {
     let table = Table::read(alloc, RECORDS.as_bytes())?;
     let odd = Plan {
         workers: 4,
-        looks: Looks::FEW,
         sending: Sending::Awaits,
         count: 1000,
         step: 2,

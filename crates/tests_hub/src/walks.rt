@@ -38,7 +38,7 @@ mod waiting;
 use crate::messages::RECORDS;
 use caller::play;
 use fp_book::Totals;
-use fp_hub::{Hub, Looks, PARTS, finish};
+use fp_hub::{Hub, PARTS, finish};
 use fp_records::Table;
 use std::alloc::Global;
 use std::marker::Brand;
@@ -53,7 +53,6 @@ use std::thread::Threads;
 #[derive(Clone, Copy)]
 struct Walk {
     link: u8,
-    looks: Looks,
     are_foreign_brought: bool,
     script: &'static str,
     totals: Totals,
@@ -62,7 +61,6 @@ struct Walk {
 /// A walk of no calls.
 const WALK: Walk = Walk {
     link: 0,
-    looks: Looks::FEW,
     are_foreign_brought: false,
     script: "",
     totals: Totals {
@@ -91,12 +89,7 @@ fn walk_over<
     if walk.link >= 8 {
         return None;
     }
-    let made = if walk.looks == Looks::FEW {
-        Hub::<A, B, C>::new(alloc, walk.link, blanks)
-    } else {
-        Hub::<A, B, C>::with_tag(alloc, walk.link, 0, walk.looks, blanks)
-    };
-    let (hub, seat) = made.ok()?;
+    let (hub, seat) = Hub::<A, B, C>::new(alloc, walk.link, blanks).ok()?;
     let (fault, seat) = play(rt, alloc, &hub, seat, table, walk);
     Some(Walked {
         fault,

@@ -1,8 +1,6 @@
 //! Calls of a hub that wait: for room, for quiet, or for a parcel to send.
 
-use super::take_mark;
 use crate::hold::Hold;
-use crate::waiting::{pause, time_left};
 use crate::{Hub, Next};
 use fp_book::Parcel;
 use fp_entry::Prepared;
@@ -14,6 +12,12 @@ use std::time::{Duration, Instant};
 
 /// The longest sleep of a thread that awaits room, in seconds, before it looks again.
 const SECONDS_FOR_ROOM: u64 = 1;
+
+/// The rest of the time `most` since `start`. `None` if nothing is left, or the clock gives no time.
+fn time_left<R: Clock>(rt: &R, start: Option<Instant>, most: Duration) -> Option<Duration> {
+    let left = most.checked_sub(start?.elapsed(rt).ok()?)?;
+    if left.is_zero() { None } else { Some(left) }
+}
 
 impl<A: Ledger, B: Ledger, C: Ledger> Hub<A, B, C> {
     /// Waits until this message isn't held back any more, or, if there is none, until the book is quiet; or until the
@@ -76,16 +80,6 @@ impl<A: Ledger, B: Ledger, C: Ledger> Hub<A, B, C> {
     /// [`Hub::hint_after_no_room`].
     pub fn await_parcel<R: Wait>(&self, rt: &R) -> Option<Parcel> {
         self.hint_after_no_room(rt);
-        for _ in 0..self.looking.count() {
-            if take_mark(&self.is_moved)
-                && let Ok(next) = self.hand_out(self.hold(rt))
-            {
-                self.looking.found();
-                return next;
-            }
-            pause();
-        }
-        self.looking.found_nothing();
         let mut hold = self.hold(rt);
         for _ in rt.forever() {
             match self.hand_out(hold) {

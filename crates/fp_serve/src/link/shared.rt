@@ -12,7 +12,7 @@ use crate::system::System;
 use crate::watch::LinkMetrics;
 use crossbeam_utils::CachePadded;
 use fp_book::{Status, Totals};
-use fp_hub::{Gate, Hub, Looks, PARTS, finish};
+use fp_hub::{Gate, Hub, PARTS, finish};
 use fp_linkstate::{Action, LinkEnd, LinkEvent, Why};
 use std::marker::Brand;
 use std::net::Shutdown;
@@ -24,12 +24,11 @@ use std::time::{Duration, Instant};
 /// The time between two looks whether all octets were handed on to the socket, in milliseconds.
 const LOOK_MILLISECONDS: u64 = 1;
 
-/// The place of a link among those of the run, from 0, its number, and the waits of its threads.
+/// The place of a link among those of the run, from 0, and its number.
 #[derive(Clone, Copy)]
 pub(crate) struct Plan {
     pub(crate) place: u8,
     pub(crate) link: u8,
-    pub(crate) looks: Looks,
     ghost is_link: { link < 8 },
 }
 
@@ -198,7 +197,7 @@ impl<
         let tag = run.settings.tag;
         let (Some(lines), Ok((hub, seat)), Ok(outgoing)) = (
             run.log.lines_of(usize::from(plan.place)),
-            Hub::<A, B, C>::with_tag(alloc, plan.link, tag, plan.looks, blanks),
+            Hub::<A, B, C>::with_tag(alloc, plan.link, tag, blanks),
             Outgoing::new(alloc),
         ) else {
             stop.ask_for(rt, ServeFault::Memory);

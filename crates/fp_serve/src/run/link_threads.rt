@@ -6,25 +6,11 @@ use crate::run::{Links, Peer, Run, ServeFault, Settings, StandingLink};
 use crate::socket::{LinkStream, connection};
 use crate::system::System;
 use fp_book::Totals;
-use fp_hub::{Gate, Looks};
+use fp_hub::Gate;
 use std::alloc::{AllocError, Global};
 use std::net::TcpListener;
 use std::thread;
-use std::thread::{JoinHandle, Scope, Threads};
-
-/// The number of threads of a link that have work to do, besides its workers: the receiving thread and the sending one.
-const OTHER_THREADS: usize = 2;
-
-/// The waits of the run's threads, given their number and the number of processors. For example, 2 links with 2 workers
-/// each have 8 threads, which look long before they sleep if there are 8 processors.
-fn looks<R: Threads>(rt: &R, settings: Settings) -> Looks {
-    let processors = match thread::available_parallelism(rt) {
-        Ok(count) => count.get(),
-        Err(_) => 1,
-    };
-    let of_a_link = usize::from(settings.workers) + OTHER_THREADS;
-    Looks::for_threads(usize::from(settings.links) * of_a_link, processors)
-}
+use std::thread::{JoinHandle, Scope};
 
 /// Starts a thread for a connected link, of this peer. There is room for its handle.
 fn start_link<'s, E: 's, R: System + Sync, G: Gate + Sync>(
@@ -59,7 +45,6 @@ fn await_links<'s, E: 's, R: System + Sync, G: Gate + Sync>(
         first_link,
         ..
     } = run.settings;
-    let looks = looks(run.rt, run.settings);
     for place in 0..links {
         let Some((stream, peer)) = connection(run.rt, &listener, run.stop) else {
             break;
@@ -67,7 +52,6 @@ fn await_links<'s, E: 's, R: System + Sync, G: Gate + Sync>(
         let plan = Plan {
             place,
             link: first_link + place,
-            looks,
         };
         let stream = LinkStream::Socket(stream);
         start_link(scope, run, gate, plan, Peer::Client(peer), stream, handles);
@@ -90,7 +74,6 @@ fn start_standing<'s, E: 's, R: System + Sync, G: Gate + Sync>(
     let plan = Plan {
         place: 0,
         link: run.settings.first_link,
-        looks: looks(run.rt, run.settings),
     };
     start_link(scope, run, gate, plan, Peer::Named(peer), stream, handles);
 }

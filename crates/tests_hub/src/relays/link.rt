@@ -138,7 +138,7 @@ fn run_link<
     if plan.link >= 8 {
         return None;
     }
-    let (hub, seat) = Hub::<A, B, C>::with_tag(alloc, plan.link, 0, plan.looks, blanks).ok()?;
+    let (hub, seat) = Hub::<A, B, C>::new(alloc, plan.link, blanks).ok()?;
     let (are_opened, sent) = run_roles(rt, &hub, seat, gate, load);
     let Sent { seat, answers } = sent;
     Some(Relayed {

@@ -2,7 +2,6 @@
 
 use crate::messages::{CALLS_COUNT, begin, calls};
 use fp_frames::Frame;
-use fp_hub::Looks;
 use fp_records::Table;
 use std::alloc::Global;
 use std::sync::atomic::{AtomicBool, AtomicU32};
@@ -21,7 +20,6 @@ pub(crate) enum Sending {
 pub(crate) struct Plan {
     pub(crate) link: u8,
     pub(crate) workers: u8,
-    pub(crate) looks: Looks,
     pub(crate) sending: Sending,
     // Whether one hint follows all messages, in place of one after each.
     pub(crate) is_hinted_once: bool,

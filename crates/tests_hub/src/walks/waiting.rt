@@ -2,7 +2,6 @@
 
 use super::{WALK, Walk, assert_walk};
 use fp_book::Totals;
-use fp_hub::Looks;
 use std::test::Fail;
 
 /// An Abort of the provider answers one of several messages.
@@ -21,20 +20,17 @@ parcel | give-in-share; tell; pause 1100; down => woken given
 /// answered one of several messages, as the call that posted them says, and after turns were given back.
 #[test]
 fn sender_is_woken(rt: HostRuntime) -> Result<(), Fail> {
-    for looks in [Looks::FEW, Looks::MANY] {
-        for (script, served) in [(ABORT, 0), (ANSWER, 2)] {
-            let walk = Walk {
-                looks,
-                script,
-                totals: Totals {
-                    accepted: 1,
-                    served,
-                    sent: 0,
-                },
-                ..WALK
-            };
-            assert_walk(&rt, rt.alloc(), walk)?;
-        }
+    for (script, served) in [(ABORT, 0), (ANSWER, 2)] {
+        let walk = Walk {
+            script,
+            totals: Totals {
+                accepted: 1,
+                served,
+                sent: 0,
+            },
+            ..WALK
+        };
+        assert_walk(&rt, rt.alloc(), walk)?;
     }
     Ok(())
 }
@@ -165,13 +161,8 @@ offer reject => held back
 /// room; if none comes, it sleeps for that time, and says so.
 #[test]
 fn waiting_threads_are_woken(rt: HostRuntime) -> Result<(), Fail> {
-    for (looks, script, accepted, served) in [
-        (Looks::FEW, WAKING, 184, 121),
-        (Looks::MANY, WAKING, 184, 121),
-        (Looks::FEW, IN_TIME, 80, 17),
-    ] {
+    for (script, accepted, served) in [(WAKING, 184, 121), (IN_TIME, 80, 17)] {
         let walk = Walk {
-            looks,
             script,
             totals: Totals {
                 accepted,
