@@ -385,6 +385,79 @@ def stays(it):
     return is_right and counts["right"] + counts["aborted"] == it.few and counts["aborted"] > 0
 
 
+def late(it):
+    """A drained node is stopped until its two seconds are over. What its common connection has by then is answered."""
+    stage, count = it.stage, 800
+    stage.node(1, 201, 100, "scp-200-1,scp-201")
+    await_port(17101)
+    own, common = peer.Peer(17101), peer.Peer(17101)
+    is_right = own.name("scp-201") and common.name("scp-200-1")
+    begins = b"".join(map(peer.begin, range(count)))
+    common.send(peer.begin(count))
+    is_right = own.answers([count]) and is_right
+    stage.command(201, "drain")
+    # (the node shuts its sending side)
+    is_right = common.take(1) == b"" and is_right
+    stage.signal("node-201", signal.SIGSTOP)
+    common.send(begins)
+    time.sleep(2.5)
+    stage.signal("node-201", signal.SIGCONT)
+    is_right = own.answers(range(count)) and is_right
+    it.note(f"{len(begins)} octets of {count} Begins waited")
+    return stage.ends(201) and is_right
+
+
+def waits(it):
+    """A drained node without a dialogue goes on until its common connection is closed, and answers a Begin that comes by it."""
+    stage = it.stage
+    stage.node(1, 201, 100, "scp-200-1,scp-201")
+    await_port(17101)
+    own, common = peer.Peer(17101), peer.Peer(17101)
+    is_right = own.name("scp-201") and common.name("scp-200-1")
+    common.send(peer.begin(0))
+    is_right = own.answers([0]) and is_right
+    stage.command(201, "drain")
+    # (the node shuts its sending side)
+    is_right = common.take(1) == b"" and is_right
+    # More than a second, after which a run without a dialogue would end, and less than two.
+    time.sleep(1.4)
+    common.send(peer.begin(1))
+    is_right = own.answers([1]) and is_right
+    common.close()
+    return stage.ends(201) and is_right
+
+
+def crowded(it):
+    """Ten connections always have messages: eight with a unit have Begins, and two without have PINGs. Each is read about as
+    often as the others."""
+    stage, units = it.stage, ["scp-200-1", "scp-201"] + [f"unit-{number}" for number in range(6)]
+    stage.node(1, 201, 100, ",".join(units), log="/dev/null", more=["--log-gaps"])
+    await_port(17101)
+    crowd = peer.Crowd(17101, [*units, None, None])
+    crowd.press(3.0)
+    counts = crowd.octets()
+    it.note(f"of the {len(counts)} connections {min(counts)} to {max(counts)} octets were answered")
+    stage.command(201, "quit")
+    return stage.running["node-201"].wait(20) == 0 and 2 * min(counts) > max(counts)
+
+
+def pressed(it):
+    """A node is drained while eight connections always have Begins: its common one is closed all the same."""
+    stage, units = it.stage, ["scp-200-1", "scp-201"] + [f"unit-{number}" for number in range(6)]
+    stage.node(1, 201, 100, ",".join(units), log="/dev/null", more=["--log-gaps"])
+    await_port(17101)
+    crowd, drained = peer.Crowd(17101, units), []
+
+    def drain():
+        stage.command(201, "drain")
+        drained.append(time.monotonic())
+
+    crowd.press(1.0, drain, 20.0)
+    seconds = crowd.refused[0] - drained[0]
+    it.note(f"the common connection was closed {seconds:.1f} seconds after the command")
+    return stage.running["node-201"].wait(20) == 0 and 2.0 <= seconds < 19.0
+
+
 def hostile(it):
     """Messages go to the node directly, as osmo-stp would pass them on."""
     stage, seconds = it.stage, it.options.seconds
@@ -413,4 +486,4 @@ def hostile(it):
 
 
 CASES = [rows, one, two, all_ipa, all_m3ua, drained, killed, hung, forgot, restarted, pair, withdrawn, upstream, handshake, records,
-         stays, hostile]
+         stays, waits, late, crowded, pressed, hostile]

@@ -1,5 +1,8 @@
 """A transfer point that sends to a node what it likes: the rows, cut connections, messages that were changed at random."""
+import contextlib
 import random
+import socket
+import threading
 import time
 
 import client
@@ -13,11 +16,18 @@ TITLE = bytes.fromhex("5364000C001204947112325476")
 FIRST = bytes.fromhex("1004C101020300")
 SECOND = bytes.fromhex("10044001020300")
 TEST = bytes.fromhex("03F1C90000")
+PING = wire.ipa(wire.CCM, b"\0")
 
 
 def segments():
     """The Begin in two XUDT."""
     return [wire.xudt(COMMON, EXCHANGE, BEGIN[:24], 0x81, FIRST), wire.xudt(COMMON, EXCHANGE, BEGIN[24:], 0x81, SECOND)]
+
+
+def begin(number, of=0xE0):
+    """A message with a Begin, under an identifier that has these numbers, as the exchange sends it by the common address."""
+    own = bytes([of]) + number.to_bytes(3, "big")
+    return wire.ipa(wire.SCCP, wire.udt(COMMON, EXCHANGE, tcap.call(own)))
 
 
 class Peer(client.Connection):
@@ -53,6 +63,67 @@ class Peer(client.Connection):
         is_asked = self.message() == wire.ipa(wire.CCM, b"\4\1\1")
         self.send(wire.ipa(wire.CCM, wire.identity(unit)), wire.ipa(wire.CCM, bytes([wire.ID_ACK])))
         return is_asked and self.message() == wire.ipa(wire.CCM, bytes([wire.ID_ACK]))
+
+    def answers(self, numbers):
+        """Whether the next messages are the answers to these Begins, in any order, each once."""
+        left = {wire.ipa(wire.SCCP, wire.udt(EXCHANGE, NODE, tcap.connected(bytes([0xE0]) + number.to_bytes(3, "big"))))
+                for number in numbers}
+        while left:
+            message = self.message()
+            if message not in left:
+                return False
+            left.remove(message)
+        return True
+
+
+class Crowd:
+    """Connections that send as fast as the node reads: Begins if they have a unit, and else PINGs. The answers to all Begins
+    come by the second one."""
+
+    def __init__(self, port, units):
+        self.texts = [b"".join(begin(number, 0xE0 + at) for number in range(2000)) if unit else PING * 30000
+                      for at, unit in enumerate(units)]
+        self.units, self.peers, self.got = units, [Peer(port) for _ in units], [bytearray() for _ in units]
+        self.refused = [None] * len(units)
+        for made, unit in zip(self.peers, units):
+            if unit:
+                client.expect(made.name(unit), f"{unit} isn't taken")
+            else:
+                made.message()
+            made.socket.settimeout(None)
+
+    def send(self, at):
+        with contextlib.suppress(OSError):
+            while True:
+                self.peers[at].send(self.texts[at])
+        self.refused[at] = time.monotonic()
+
+    def read(self, at):
+        with contextlib.suppress(OSError):
+            while more := self.peers[at].socket.recv(1 << 20):
+                self.got[at] += more
+
+    def press(self, seconds, then=None, more=0.0):
+        """Sends and reads for some seconds; does something, and goes on for more seconds. `refused` says when a connection
+        took no more."""
+        threads = [threading.Thread(target=each, args=(at,)) for at in range(len(self.peers)) for each in (self.read, self.send)]
+        for thread in threads:
+            thread.start()
+        time.sleep(seconds)
+        if then:
+            then()
+            time.sleep(more)
+        for made in self.peers:
+            with contextlib.suppress(OSError):
+                made.socket.shutdown(socket.SHUT_RDWR)
+        for thread in threads:
+            thread.join()
+
+    def octets(self):
+        """How many octets of each connection were answered."""
+        size, answers = len(begin(0)), self.got[1]
+        return [answers.count(bytes([0x49, 4, 0xE0 + at])) * size if unit else len(self.got[at])
+                for at, unit in enumerate(self.units)]
 
 
 def rows():

@@ -1,20 +1,20 @@
 //! Cases of the operations of INAP and their arguments (after ITU-T Q.1218).
 //!
-//! | Case | What it gives |
+//! | Case | Result |
 //! |---|---|
-//! | `initial-dp HEX` | what the element of these octets says as the argument of InitialDP: `key KEY, called NUMBER, calling NUMBER, category OCTET, event EVENT`; or `mistyped` |
-//! | `event-report HEX` | what it says as that of EventReportBCSM: `event EVENT, leg LEG, request` or `.. notification`; or `mistyped` |
+//! | `initial-dp HEX` | the element of these octets, read as the argument of InitialDP: `key KEY, called NUMBER, calling NUMBER, category OCTET, event EVENT`; or `mistyped` |
+//! | `event-report HEX` | the same, read as the argument of EventReportBCSM: `event EVENT, leg LEG, request` or `.. notification`; or `mistyped` |
 //! | `connect DIGITS` | the octets of the argument of Connect to this destination |
-//! | `release CAUSE` | those of ReleaseCall with this cause, as `user-busy` |
-//! | `request-report` | those of RequestReportBCSMEvent |
+//! | `release CAUSE` | the octets of the argument of ReleaseCall with this cause, for example `user-busy` |
+//! | `request-report` | the octets of the argument of RequestReportBCSMEvent |
 //! | `continue IDENTIFIER` | the octets of the Invoke of Continue |
 //! | `activity-test IDENTIFIER` | the octets of the Invoke of ActivityTest |
 //! | `operation CODE` | the operation of this code, with its code and class; or `-` |
-//! | `event CODE` | the event of this code, and the code that it has |
-//! | `error NAME` | the code of this error, as `missingParameter` |
+//! | `event CODE` | the event of this code, and that event's code |
+//! | `error NAME` | the code of this error, for example `missingParameter` |
 //!
-//! A number is its nature of address and after a colon its digits, as `3:800123456`; a leg is its side and its
-//! octet, as `receiving 2`. What is absent is `-`.
+//! A number is its nature of address, a colon and its digits, for example `3:800123456`. A leg is its side and its
+//! octet, for example `receiving 2`. An absent part is `-`.
 
 use crate::elements::{element_of, new_writer, push_written};
 use crate::numbers::{are_writable, digits_of};
@@ -28,7 +28,7 @@ use fp_inap::{
 use std::alloc::Global;
 use std::fmt::Write;
 
-/// Writes a number, as its nature of address and its digits.
+/// Writes a number: its nature of address, a colon and its digits.
 fn push_number(out: &mut String, number: Option<Number>) -> anyhow::Result<()> {
     let Some(number) = number else {
         return Ok(out.push_str("-")?);
@@ -37,7 +37,7 @@ fn push_number(out: &mut String, number: Option<Number>) -> anyhow::Result<()> {
     push_digits(out, number.digits.as_slice())
 }
 
-/// Writes what the argument of an InitialDP says.
+/// Writes the contents of the argument of an InitialDP.
 fn push_initial_dp(out: &mut String, read: &InitialDp) -> anyhow::Result<()> {
     out.push_str("key ")?;
     push_value(out, read.key, "-")?;
@@ -51,7 +51,7 @@ fn push_initial_dp(out: &mut String, read: &InitialDp) -> anyhow::Result<()> {
     push_name(out, read.event, "-")
 }
 
-/// What the argument of an InitialDP says.
+/// Writes the contents of the argument of an InitialDP, or `mistyped`.
 fn initial_dp(alloc: Global, text: &str, out: &mut String) -> anyhow::Result<()> {
     let element = element_of(alloc, text)?;
     match read_initial_dp(&element) {
@@ -60,7 +60,7 @@ fn initial_dp(alloc: Global, text: &str, out: &mut String) -> anyhow::Result<()>
     }
 }
 
-/// Writes a leg, as its side and its octet.
+/// Writes a leg: its side and its octet.
 fn push_leg(out: &mut String, leg: Option<Leg>) -> anyhow::Result<()> {
     match leg {
         Some(Leg::Sending(leg)) => write!(out, "sending {leg}")?,
@@ -70,7 +70,7 @@ fn push_leg(out: &mut String, leg: Option<Leg>) -> anyhow::Result<()> {
     Ok(())
 }
 
-/// Writes what the argument of an EventReportBCSM says.
+/// Writes the contents of the argument of an EventReportBCSM.
 fn push_event_report(out: &mut String, read: &EventReport) -> anyhow::Result<()> {
     write!(out, "event {:?}, leg ", read.event)?;
     push_leg(out, read.leg)?;
@@ -82,7 +82,7 @@ fn push_event_report(out: &mut String, read: &EventReport) -> anyhow::Result<()>
     Ok(())
 }
 
-/// What the argument of an EventReportBCSM says.
+/// Writes the contents of the argument of an EventReportBCSM, or `mistyped`.
 fn event_report(alloc: Global, text: &str, out: &mut String) -> anyhow::Result<()> {
     let element = element_of(alloc, text)?;
     match read_event_report(&element) {
@@ -153,7 +153,7 @@ fn operation(text: &str, out: &mut String) -> anyhow::Result<()> {
     Ok(write!(out, "{operation:?}, code {code}, {class:?}")?)
 }
 
-/// The event of a code, and the code that it has.
+/// The event of a code, and that event's code.
 fn event(text: &str, out: &mut String) -> anyhow::Result<()> {
     let event = Event::from_code(text.parse()?);
     Ok(write!(out, "{event:?}, code {}", event.code())?)
@@ -176,7 +176,7 @@ fn error(name: &str, out: &mut String) -> anyhow::Result<()> {
     Ok(write!(out, "code {}", error.code())?)
 }
 
-/// Writes what a case of this module gives, and says whether it has one of this kind.
+/// Writes the result of a case of this kind. `false` if this module has no such cases.
 pub(crate) fn answer(
     alloc: Global,
     kind: &str,

@@ -1,13 +1,13 @@
 //! Messages of IPA, and the management of a connection that carries them.
 //!
-//! | Case | What it gives |
+//! | Case | Result |
 //! |---|---|
-//! | `ipa PIECE ..` | the messages of a stream that comes in these pieces, each its stream and its octets, with `; ` between the pieces, or why there is no next message; and whether octets remain |
-//! | `ipa-by-octet HEX` | the messages of a stream that comes octet by octet |
+//! | `ipa PIECE ..` | the messages of a stream that arrives in these pieces, each as its stream and its octets, with `; ` between the pieces; or why there is no next message; and whether octets remain |
+//! | `ipa-by-octet HEX` | the messages of a stream that arrives octet by octet |
 //! | `ipa-of COUNT` | how many octets a message of COUNT octets 5A has, or why it isn't taken |
 //! | `ipa-head CODE COUNT` | the octets before a message of this stream |
-//! | `connection NAMES PIECE ..` | what is done on a connection for each message of these pieces, and the state then; it may name one of NAMES |
-//! | `connection-by-octet NAMES HEX` | the same, if the octets come one by one |
+//! | `connection NAMES PIECE ..` | the action for each message of these pieces on a connection, and the state after it; the peer may name one of NAMES |
+//! | `connection-by-octet NAMES HEX` | the same, if the octets arrive one by one |
 
 use anyhow::bail;
 use cases::{first_word, octets_of, push_octets};
@@ -33,7 +33,7 @@ fn push_comma(out: &mut String, is_first: &mut bool) -> anyhow::Result<()> {
     Ok(())
 }
 
-/// Writes the messages that are there, and why there is no next one.
+/// Writes the complete messages, and the fault if there is one.
 fn push_messages(
     out: &mut String,
     reader: &mut IpaReader,
@@ -63,7 +63,7 @@ fn push_rest(out: &mut String, reader: &IpaReader) -> anyhow::Result<()> {
     Ok(())
 }
 
-/// Feeds a piece, and writes the messages that are there then.
+/// Feeds a piece, and writes the messages that it completes.
 fn push_piece(
     alloc: Global,
     out: &mut String,
@@ -83,7 +83,7 @@ fn push_piece(
     Ok(())
 }
 
-/// The messages of a stream that comes in pieces.
+/// The messages of a stream that arrives in pieces.
 fn stream(alloc: Global, pieces: &str, out: &mut String) -> anyhow::Result<()> {
     let mut reader = IpaReader::new(alloc);
     for piece in pieces.split(' ') {
@@ -106,7 +106,7 @@ fn push_octet_by_octet(
     push_rest(out, reader)
 }
 
-/// The messages of a stream that comes octet by octet.
+/// The messages of a stream that arrives octet by octet.
 fn stream_by_octet(alloc: Global, text: &str, out: &mut String) -> anyhow::Result<()> {
     let octets = octets_of(alloc, text)?;
     let mut reader = IpaReader::new(alloc);
@@ -126,7 +126,7 @@ fn push_length(out: &mut String, reader: &mut IpaReader, count: u16) -> anyhow::
     }
 }
 
-/// How many octets a message has whose contents have this number of octets.
+/// How many octets are read for a message with this number of octets, or why it is refused.
 fn length(alloc: Global, text: &str, out: &mut String) -> anyhow::Result<()> {
     let count = text.parse()?;
     let mut reader = IpaReader::new(alloc);
@@ -169,7 +169,7 @@ fn push_state(out: &mut String, state: State) -> anyhow::Result<()> {
     }
 }
 
-/// Writes what is done for a message.
+/// Writes the action for a message.
 fn push_action(out: &mut String, action: Action, message: &IpaMessage) -> anyhow::Result<()> {
     match action {
         Action::Skip => out.push_str("skips")?,
@@ -195,7 +195,7 @@ struct Connection<'a> {
 }
 
 impl Connection<'_> {
-    /// Takes a message, and writes what is done and the state then.
+    /// Takes a message, and writes the action and the state after it.
     fn take(&mut self, out: &mut String, message: &IpaMessage) -> anyhow::Result<()> {
         out.push_str("; ")?;
         let received = received_of(self.names, message.stream, message.octets.as_slice());
@@ -205,7 +205,7 @@ impl Connection<'_> {
         push_state(out, state)
     }
 
-    /// Takes the messages that are there.
+    /// Takes the complete messages.
     fn take_all(&mut self, out: &mut String, reader: &mut IpaReader) -> anyhow::Result<()> {
         for _ in 0..u32::MAX {
             let Some(message) = reader.next()? else {
@@ -238,7 +238,7 @@ fn push_pieces(
     Ok(())
 }
 
-/// What is done on a connection whose octets come in pieces.
+/// The actions on a connection whose octets arrive in pieces.
 fn connection_by_pieces(alloc: Global, text: &str, out: &mut String) -> anyhow::Result<()> {
     let (names, pieces) = first_word(text);
     let names = names_of(alloc, names)?;
@@ -265,7 +265,7 @@ fn push_octets_one_by_one(
     Ok(())
 }
 
-/// What is done on a connection whose octets come one by one.
+/// The actions on a connection whose octets arrive one by one.
 fn connection_by_octet(alloc: Global, text: &str, out: &mut String) -> anyhow::Result<()> {
     let (names, octets) = first_word(text);
     let names = names_of(alloc, names)?;
@@ -273,7 +273,7 @@ fn connection_by_octet(alloc: Global, text: &str, out: &mut String) -> anyhow::R
     push_octets_one_by_one(alloc, out, names.as_slice(), octets.as_slice())
 }
 
-/// Writes what a case of this module gives, and says whether it has one of this kind.
+/// Writes the result of a case of this kind. `false` if this module has no such cases.
 pub(crate) fn answer(
     alloc: Global,
     kind: &str,

@@ -1,26 +1,26 @@
-//! Deadlines of dialogues by local transaction identifier, and the identifiers that a link gives.
+//! Deadlines of dialogues by local transaction identifier, and the identifiers that a link hands out.
 //!
-//! | Case | What it gives |
+//! | Case | Result |
 //! |---|---|
-//! | `deadlines DONE, DONE, ..` | what is done to new deadlines, one after the other: what each gives that gives something |
-//! | `local-ids LINK DONE, ..` | the same, done to the identifiers of a link, 0 to 7, of which none was given yet |
-//! | `turns LINK COUNT` | so many identifiers of a link are given, each once the one before came back: the last of them, and the next |
+//! | `deadlines DONE, DONE, ..` | the results, if any, of these operations on new deadlines, in turn |
+//! | `local-ids LINK DONE, ..` | the same for the identifiers of a link, 0 to 7, none of which was given yet |
+//! | `turns LINK COUNT` | the last of COUNT identifiers of a link, each given after the one before it was ended; and the next one |
 //!
-//! In place of LINK there may be `LINK/TAG`: the run has this tag, 0 to 4,094, and else none, which is the tag 0.
+//! `LINK/TAG` in place of LINK gives the run this tag, 0 to 4,094. Otherwise it has none, which is the tag 0.
 //!
-//! | Done to deadlines | What it gives |
+//! | Operation on deadlines | Result |
 //! |---|---|
 //! | `set ID MS` | nothing: the identifier has this deadline, in milliseconds since 1970 |
 //! | `clear ID` | nothing: the identifier has no deadline |
 //! | `due MS` | the identifier that is due at this moment, or `none` |
 //! | `first MS` | the first deadline, if it is due at this moment, as `ID MS`, or `none` |
-//! | `after ID MS MS` | the same of those that come after this deadline of this identifier: at the second moment |
-//! | `count` | how many have a deadline |
-//! | `fill COUNT rising` | nothing: so many identifiers from 20000001 on have the deadlines 1, 2, 3 .. |
+//! | `after ID MS MS` | the first deadline after this one of this identifier, if it is due at the second moment |
+//! | `count` | how many identifiers have a deadline |
+//! | `fill COUNT rising` | nothing: COUNT identifiers from 20000001 on have the deadlines 1, 2, 3 .. |
 //! | `fill COUNT falling` | the same with the deadlines COUNT .. 3, 2, 1 |
-//! | `drain MS` | what is due at this moment is cleared until nothing is: how many, the first and the last, and whether each was one more than the one before, or one less; or `none` |
+//! | `drain MS` | deadlines due at this moment are cleared until none is: how many there were, the first and the last identifier, and whether each was one more, or one less, than the one before; or `none` |
 //!
-//! | Done to identifiers | What it gives |
+//! | Operation on identifiers | Result |
 //! |---|---|
 //! | `give` | the next identifier, or `none` |
 //! | `pass COUNT` | nothing: this number of identifiers is given |
@@ -37,10 +37,10 @@ use fp_tids::{LocalIds, link_of, serials_are_distinct};
 use fp_timers::{Deadlines, Timer};
 use std::alloc::Global;
 
-/// The first identifier that is given a deadline where many are.
+/// The first identifier of those that `fill` gives a deadline.
 const FIRST: u32 = 0x2000_0001;
 
-/// Writes what a case of this module gives, and says whether it has one of this kind.
+/// Writes the result of a case of this kind. `false` if this module has no such cases.
 pub(crate) fn answer(
     alloc: Global,
     kind: &str,
@@ -57,13 +57,13 @@ pub(crate) fn answer(
     Ok(true)
 }
 
-/// Does to new deadlines what a text says.
+/// Performs the operations of a text on new deadlines.
 fn of_deadlines(alloc: Global, text: &str, out: &mut String) -> anyhow::Result<()> {
     let mut deadlines = Deadlines::new(alloc)?;
     change_all(&mut deadlines, text, out)
 }
 
-/// Does to deadlines one thing after the other.
+/// Performs operations on deadlines, in turn.
 fn change_all(deadlines: &mut Deadlines, text: &str, out: &mut String) -> anyhow::Result<()> {
     for part in text.split(", ") {
         change(deadlines, part, out)?;
@@ -71,7 +71,7 @@ fn change_all(deadlines: &mut Deadlines, text: &str, out: &mut String) -> anyhow
     Ok(())
 }
 
-/// Does something to deadlines, and writes what that gives.
+/// Performs an operation on deadlines, and writes its result, if it has one.
 fn change(deadlines: &mut Deadlines, text: &str, out: &mut String) -> anyhow::Result<()> {
     let (word, rest) = first_word(text);
     match word {
@@ -87,14 +87,14 @@ fn change(deadlines: &mut Deadlines, text: &str, out: &mut String) -> anyhow::Re
     }
 }
 
-/// Gives an identifier the deadline that a text says.
+/// Gives the identifier in a text the deadline in that text.
 fn set_of(deadlines: &mut Deadlines, text: &str) -> anyhow::Result<()> {
     let (local, deadline) = first_word(text);
     let local = local_of(local)?;
     set(deadlines, local, deadline.parse()?)
 }
 
-/// Takes away the deadline of an identifier.
+/// Clears the deadline of an identifier.
 fn clear(deadlines: &mut Deadlines, local: &str) -> anyhow::Result<()> {
     deadlines.clear(local_of(local)?);
     Ok(())
@@ -134,14 +134,14 @@ fn push_timer(timer: Option<Timer>, out: &mut String) -> anyhow::Result<()> {
     Ok(())
 }
 
-/// Writes how many have a deadline.
+/// Writes how many identifiers have a deadline.
 fn push_count(deadlines: &Deadlines, out: &mut String) -> anyhow::Result<()> {
     push_blank(out)?;
     write!(out, "{}", deadlines.len())?;
     Ok(())
 }
 
-/// The moment so many milliseconds after 1970.
+/// The moment this number of milliseconds after 1970-01-01T00:00:00Z.
 fn moment_of(text: &str) -> anyhow::Result<Moment> {
     match Moment::new(text.parse()?) {
         Some(moment) => Ok(moment),
@@ -158,7 +158,7 @@ fn set(deadlines: &mut Deadlines, local: u32, deadline: u64) -> anyhow::Result<(
     Ok(())
 }
 
-/// Gives so many identifiers a deadline each, later and later ones or earlier and earlier ones.
+/// Gives this number of identifiers a deadline each, rising or falling.
 fn fill(deadlines: &mut Deadlines, text: &str) -> anyhow::Result<()> {
     let (count, order) = first_word(text);
     let count: u16 = count.parse()?;
@@ -170,14 +170,15 @@ fn fill(deadlines: &mut Deadlines, text: &str) -> anyhow::Result<()> {
     Ok(())
 }
 
-/// The identifier that is due, which has no deadline any more.
+/// Clears the deadline of the identifier that is due, and returns the identifier.
 fn taken(deadlines: &mut Deadlines, moment: Moment) -> Option<u32> {
     let local = deadlines.due(moment)?;
     deadlines.clear(local);
     Some(local)
 }
 
-/// Takes away what is due until nothing is, and writes how many there were, the first and the last, and their order.
+/// Clears the deadlines that are due, and writes how many there were, the first and the last identifier, and their
+/// order.
 fn drain(deadlines: &mut Deadlines, moment: &str, out: &mut String) -> anyhow::Result<()> {
     let moment = moment_of(moment)?;
     match taken(deadlines, moment) {
@@ -186,7 +187,7 @@ fn drain(deadlines: &mut Deadlines, moment: &str, out: &mut String) -> anyhow::R
     }
 }
 
-/// Identifiers that were taken away one after the other.
+/// Identifiers whose deadlines were cleared, in turn.
 #[derive(Clone, Copy)]
 struct Drained {
     count: u32,
@@ -196,7 +197,7 @@ struct Drained {
     falls: bool,
 }
 
-/// What is taken away until nothing is due, the first of it before.
+/// Clears deadlines until none is due. The deadline of `first` was cleared before.
 fn drain_all(deadlines: &mut Deadlines, moment: Moment, first: u32) -> Drained {
     let mut drained = Drained {
         count: 1,
@@ -214,7 +215,7 @@ fn drain_all(deadlines: &mut Deadlines, moment: Moment, first: u32) -> Drained {
     drained
 }
 
-/// What was taken away, and one more.
+/// The cleared identifiers and one more.
 fn with_next(drained: Drained, local: u32) -> Drained {
     Drained {
         count: drained.count.saturating_add(1),
@@ -225,7 +226,7 @@ fn with_next(drained: Drained, local: u32) -> Drained {
     }
 }
 
-/// Writes what was taken away.
+/// Writes the cleared identifiers: their number, the first, the last, and their order.
 fn push_drained(drained: Drained, out: &mut String) -> anyhow::Result<()> {
     push_blank(out)?;
     write!(
@@ -237,7 +238,7 @@ fn push_drained(drained: Drained, out: &mut String) -> anyhow::Result<()> {
     Ok(())
 }
 
-/// The order of identifiers, each of which is one more, or one less, than the one before.
+/// The word for the order of identifiers: whether each is one more, or one less, than the one before.
 fn order_text(rises: bool, falls: bool) -> &'static str {
     if rises {
         "rising"
@@ -283,14 +284,14 @@ fn ids_of(alloc: Global, text: &str) -> anyhow::Result<LocalIds>
     Ok(LocalIds::with_tag(alloc, link, tag)?)
 }
 
-/// Does to the identifiers of a link what a text says. None of them was given yet.
+/// Performs the operations of a text on the identifiers of a link. None was given yet.
 fn of_local_ids(alloc: Global, text: &str, out: &mut String) -> anyhow::Result<()> {
     let (link, rest) = first_word(text);
     let mut ids = ids_of(alloc, link)?;
     use_all(&mut ids, rest, out)
 }
 
-/// Gives identifiers of a link, each once the one before came back, and writes the last of them and the next.
+/// Gives identifiers of a link, each after the one before it was ended, and writes the last of them and the next.
 fn of_turns(alloc: Global, text: &str, out: &mut String) -> anyhow::Result<()> {
     let (link, count) = first_word(text);
     let mut ids = ids_of(alloc, link)?;
@@ -304,7 +305,7 @@ fn of_turns(alloc: Global, text: &str, out: &mut String) -> anyhow::Result<()> {
     push_local(ids.next(), out)
 }
 
-/// The next identifier is given, and its serial comes back.
+/// Gives the next identifier and ends it.
 fn turn(ids: &mut LocalIds) -> Option<u32>
     requires { AreSerials ids.old.queue }
     ensures { AreSerials ids.new.queue }
@@ -315,7 +316,7 @@ fn turn(ids: &mut LocalIds) -> Option<u32>
     Some(local)
 }
 
-/// Does to identifiers one thing after the other.
+/// Performs operations on identifiers, in turn.
 fn use_all(ids: &mut LocalIds, text: &str, out: &mut String) -> anyhow::Result<()> {
     for part in text.split(", ") {
         use_ids(ids, part, out)?;
@@ -323,7 +324,7 @@ fn use_all(ids: &mut LocalIds, text: &str, out: &mut String) -> anyhow::Result<(
     Ok(())
 }
 
-/// Does something to identifiers, and writes what that gives.
+/// Performs an operation on identifiers, and writes its result.
 fn use_ids(ids: &mut LocalIds, text: &str, out: &mut String) -> anyhow::Result<()> {
     let (word, rest) = first_word(text);
     match word {
@@ -334,7 +335,7 @@ fn use_ids(ids: &mut LocalIds, text: &str, out: &mut String) -> anyhow::Result<(
     }
 }
 
-/// This number of identifiers is given.
+/// Gives this number of identifiers.
 fn pass(ids: &mut LocalIds, count: &str) -> anyhow::Result<()> {
     let count: u32 = count.parse()?;
     for _ in 0..count {
@@ -361,7 +362,7 @@ fn push_local(local: Option<u32>, out: &mut String) -> anyhow::Result<()> {
     Ok(())
 }
 
-/// Writes a blank after what is there, if anything is.
+/// Writes a blank, if there is text before it.
 fn push_blank(out: &mut String) -> anyhow::Result<()> {
     if !out.is_empty() {
         out.push(' ')?;

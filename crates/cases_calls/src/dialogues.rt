@@ -1,19 +1,19 @@
 //! Whole dialogues, from frame to frame. A scene keeps the records and the dialogue from one case to the next.
 //!
-//! | Case | What it gives |
+//! | Case | Result |
 //! |---|---|
-//! | `dialogue-table HEAD` | a file of records begins with this first record: how many numbers and rules it has |
-//! | `dialogue-row ROW` | this record is added after it: the same |
-//! | `at MS HEX` | so many milliseconds after noon this message comes: what its entries ask for, one after the other |
-//! | `at MS clock` | the clock tells this moment: what it asks for |
+//! | `dialogue-table HEAD` | begins a file of records with this first record: how many numbers and rules it has |
+//! | `dialogue-row ROW` | adds this record to the file: the same |
+//! | `at MS HEX` | the requests of the entries of this message, in turn, if it arrives MS milliseconds after noon |
+//! | `at MS clock` | the requests of the clock at this moment |
 //! | `reply LOCAL PEER REQUEST` | the frame of a request, as words of `request`, if the dialogue has these two identifiers |
 //! | `abort-frame PEER CAUSE` | the frame of an Abort of the provider for this cause, if the peer has this identifier |
 //!
-//! Noon is 2024-05-06T12:00:00Z. The application context 2A0304 is accepted. A Begin begins the dialogue anew, the
-//! first of its link, whose identifier is 00000001 on this side and the Begin's on the other. What is asked for is
-//! the frames that are sent, each with its head, or `none`; after that comes `over`, or the moment in milliseconds
-//! after noon at which the clock does something next, as in `none, due 10000`. Each entry is handed to the service
-//! step, also if the dialogue is over.
+//! Noon is 2024-05-06T12:00:00Z. The application context 2A0304 is accepted. A Begin starts the dialogue anew, as the
+//! first of its link: its identifier is 00000001 on this side and the Begin's on the other. The requests are the frames
+//! that are sent, each with its head, or `none`. Then follows `over`, or the next moment, in milliseconds after noon,
+//! at which the clock has an effect. For example, `none, due 10000`. Each entry is handed to the service step, also if
+//! the dialogue is over.
 
 mod request;
 
@@ -36,7 +36,7 @@ const LOCAL: u32 = 1;
 /// The application context that is accepted.
 const ACCEPTED: [u8; 3] = [0x2A, 0x03, 0x04];
 
-/// What the cases before have left for the next ones.
+/// The state that cases leave for later ones.
 #[derive(Drop)]
 pub(crate) struct Scene {
     rows: Rows,
@@ -45,7 +45,7 @@ pub(crate) struct Scene {
 }
 
 impl Scene {
-    /// That of the first case: there are no records, and no Begin has come.
+    /// The state before the first case: no records, and no Begin was received.
     pub(crate) fn new(alloc: Global) -> Scene {
         Scene {
             rows: Rows::new(alloc),
@@ -54,7 +54,7 @@ impl Scene {
         }
     }
 
-    /// Writes what a case of this module gives, and says whether it has one of this kind.
+    /// Writes the result of a case of this kind. `false` if this module has no such cases.
     pub(crate) fn answer(
         &mut self,
         alloc: Global,
@@ -74,7 +74,7 @@ impl Scene {
         Ok(true)
     }
 
-    /// An event of the dialogue.
+    /// Handles an event of the dialogue: a message or the clock.
     fn at(&mut self, alloc: Global, text: &str, out: &mut String) -> anyhow::Result<()> {
         let (milliseconds, event) = first_word(text);
         let moment = after_noon(milliseconds.parse()?);
@@ -86,13 +86,13 @@ impl Scene {
         push_rest(&self.core, out)
     }
 
-    /// The clock tells a moment.
+    /// Handles the clock at a moment.
     fn tick(&mut self, alloc: Global, moment: Moment, out: &mut String) -> anyhow::Result<()> {
         let kind = EntryKind::Clock;
         self.serve(alloc, &Entry { moment, kind }, out)
     }
 
-    /// A message of these octets comes.
+    /// Receives a message of these octets.
     fn receive(
         &mut self,
         alloc: Global,
@@ -109,7 +109,7 @@ impl Scene {
         self.serve_prepared(alloc, &prepared, out)
     }
 
-    /// Serves the entries of a message. A Begin begins the dialogue.
+    /// Serves the entries of a message. A Begin starts the dialogue.
     fn serve_prepared(
         &mut self,
         alloc: Global,
@@ -125,7 +125,7 @@ impl Scene {
         }
     }
 
-    /// Begins the dialogue if a Begin came.
+    /// Starts the dialogue if the message is a Begin.
     fn begin(&mut self, arrival: &Arrival) {
         if let (Kind::Begin, Some(peer)) = (arrival.ids.kind, arrival.ids.orig) {
             self.core = Core::new(1, arrival.moment);
@@ -133,7 +133,7 @@ impl Scene {
         }
     }
 
-    /// Serves entries one after the other, and writes what is sent for them.
+    /// Serves entries in turn, and writes the frames that are sent for them.
     fn serve_all(
         &mut self,
         alloc: Global,
@@ -146,7 +146,7 @@ impl Scene {
         Ok(())
     }
 
-    /// Serves an entry, and writes what is sent for it, after a blank if there is more.
+    /// Serves an entry, and writes the frame that is sent for it, after a blank if there is text before it.
     fn serve(&mut self, alloc: Global, entry: &Entry, out: &mut String) -> anyhow::Result<()> {
         let (core, request) = step(alloc, &self.core, entry)?;
         self.core = core;
@@ -160,7 +160,7 @@ impl Scene {
     }
 }
 
-/// Writes `none` if nothing is sent, and whether a dialogue is over, or when the clock does something next.
+/// Writes `none` if no frame was sent, and then `over`, or when the clock next has an effect.
 fn push_rest(core: &Core, out: &mut String) -> anyhow::Result<()> {
     if out.is_empty() {
         out.push_str("none")?;

@@ -1,4 +1,4 @@
-//! Elements from hexadecimal text, and what a writer holds as such text. `empty` stands for no octets.
+//! Elements from hexadecimal text, and the octets in a writer as such text. `empty` means no octets.
 
 use cases::{octets_of, push_octets};
 use fp_ber::{Element, Writer};
@@ -10,7 +10,7 @@ pub(crate) fn element_of(alloc: Global, text: &str) -> anyhow::Result<Element> {
     Ok(fp_ber::read(alloc, octets.as_slice())?)
 }
 
-/// A writer with room for what most cases put.
+/// A writer with enough room for most cases.
 pub(crate) fn new_writer(alloc: Global) -> anyhow::Result<Writer> {
     Ok(Writer::with_capacity(alloc, 128)?)
 }

@@ -1,17 +1,17 @@
-//! What a message brings to its dialogue (`fp_entry`): its entries, or why it brings none.
+//! The entries that a message gives its dialogue (`fp_entry`), or why it gives none.
 //!
-//! | Case | What it gives |
+//! | Case | Result |
 //! |---|---|
-//! | `prepare MOMENT CONTEXT HEX` | what the message of these octets is prepared to, and the frame that came: its identifiers, how many octets it has, and its moment |
-//! | `in-continue HEX` | what a Continue from 0000002A to 00000001 that holds this component alone is prepared to at noon, with indefinite lengths around the component |
-//! | `lost MOMENT HEX` | what the frame of these octets is if no memory was left |
-//! | `list MOMENTS KINDS` | a list before and after its first entry, and copies of its entries when it came apart and together again |
-//! | `append MOMENTS KINDS` | a list with no entry and then a copy of itself added after it |
-//! | `distinct MOMENTS KINDS` | how many of these entries are from components, take a place or are the clock's, how many are the same as their copy, and how many pairs of an entry and a copy are the same |
+//! | `prepare MOMENT CONTEXT HEX` | the prepared message of these octets, and its frame: its identifiers, how many octets it has, and its moment |
+//! | `in-continue HEX` | the prepared Continue from 0000002A to 00000001 with only this component, at noon, with indefinite lengths around the component |
+//! | `lost MOMENT HEX` | the prepared message for the frame of these octets, if memory ran out |
+//! | `list MOMENTS KINDS` | a list before and after its first entry, and copies of its entries after it was taken apart and put together again |
+//! | `append MOMENTS KINDS` | a list, after an empty list and then a copy of itself were appended |
+//! | `distinct MOMENTS KINDS` | how many of these entries are from components, take a place or are the clock's, how many equal their copy, and how many pairs of an entry and a copy are equal |
 //!
-//! A MOMENT is a number of milliseconds after noon of 2024-05-06, and MOMENTS are some of them with commas. CONTEXT
-//! is the application context name that is accepted, in hexadecimal, or `-` if none is. KINDS are those of `kinds`,
-//! separated by semicolons, each of them at each of the moments. `shown` has them as text. The records are [`RECORDS`].
+//! A MOMENT is a number of milliseconds after noon of 2024-05-06, and MOMENTS are some of them with commas. CONTEXT is
+//! the application context name that is accepted, in hexadecimal, or `-` if none is. KINDS are as in `kinds`, separated
+//! by semicolons, each of them at each of the moments. `shown` has them as text. The records are [`RECORDS`].
 
 mod lists;
 mod shown;
@@ -34,21 +34,21 @@ const RECORDS: &[u8] = b"key,100,60
 800123459,,1234567,00:00,24:00,1,pass
 ";
 
-/// What all cases have in common.
+/// The records, which all cases share.
 #[derive(Drop)]
 pub(crate) struct Scene {
     table: Table,
 }
 
 impl Scene {
-    /// The records are read.
+    /// Reads the records.
     pub(crate) fn new(alloc: Global) -> anyhow::Result<Scene> {
         Ok(Scene {
             table: Table::read(alloc, RECORDS)?,
         })
     }
 
-    /// Writes what a case of this module gives, and says whether it has one of this kind.
+    /// Writes the result of a case of this kind. `false` if this module has no such cases.
     pub(crate) fn answer(
         &self,
         alloc: Global,
@@ -70,7 +70,7 @@ impl Scene {
     }
 }
 
-/// What a message is prepared to if this application context is accepted, or none.
+/// Prepares a message, with this application context accepted, or none.
 fn prepared(
     alloc: Global,
     table: &Table,
@@ -87,7 +87,7 @@ fn prepared(
     Ok(Prepared::read(alloc, table, &[name], frame, moment))
 }
 
-/// Writes what a message is prepared to.
+/// Writes the prepared message.
 fn prepare(alloc: Global, table: &Table, text: &str, out: &mut String) -> anyhow::Result<()> {
     let (milliseconds, rest) = first_word(text);
     let (context, octets) = first_word(rest);
@@ -96,14 +96,14 @@ fn prepare(alloc: Global, table: &Table, text: &str, out: &mut String) -> anyhow
     push_prepared(table, &prepared, out)
 }
 
-/// Writes what a Continue with this component alone is prepared to.
+/// Writes the prepared Continue with only this component.
 fn in_continue(alloc: Global, table: &Table, octets: &str, out: &mut String) -> anyhow::Result<()> {
     let message = format!(in alloc; "658048040000002A4904000000016C80{octets}00000000")?;
     let prepared = prepared(alloc, table, after_noon(0), "-", message.as_str())?;
     push_prepared(table, &prepared, out)
 }
 
-/// Writes what a lost frame has.
+/// Writes the prepared message for a lost frame.
 fn lost(alloc: Global, table: &Table, text: &str, out: &mut String) -> anyhow::Result<()> {
     let (milliseconds, octets) = first_word(text);
     let moment = after_noon(milliseconds.parse()?);

@@ -1,10 +1,10 @@
 //! Frames and their heads.
 //!
-//! | Case | What it gives |
+//! | Case | Result |
 //! |---|---|
 //! | `frame HEX` | the octets of the frame of this message (`empty`: of no octets), or `none` |
 //! | `copy-frame HEX` | the octets of a copy of the frame of this message |
-//! | `frame-of COUNT` | of the frame of a message of COUNT octets 5A: how many octets it holds, or `none` |
+//! | `frame-of COUNT` | how many octets the frame of a message of COUNT octets 5A has, or `none` |
 //! | `head COUNT` | the octets before a message of COUNT octets |
 
 use anyhow::{bail, ensure};
@@ -14,7 +14,7 @@ use fp_frames::{Frame, frame_head};
 use std::alloc::Global;
 use std::fmt::Write;
 
-/// The frame of this message, or `None` where no frame holds it.
+/// The frame of this message; `None` if a frame can't hold it.
 fn frame_of(alloc: Global, octets: &[u8]) -> anyhow::Result<Option<Frame>> {
     Ok(Frame::new(Bytes::copy_from_slice(alloc, octets)?))
 }
@@ -55,7 +55,7 @@ fn push_count(out: &mut String, octets: &[u8]) -> anyhow::Result<()> {
     Ok(write!(out, "{} of 5A", octets.len())?)
 }
 
-/// How many octets the frame of a message of this many octets 5A holds.
+/// How many octets the frame of a message of this number of octets 5A has.
 fn count(alloc: Global, text: &str, out: &mut String) -> anyhow::Result<()> {
     let count: u16 = text.parse()?;
     let mut octets = Vec::new(alloc);
@@ -66,14 +66,14 @@ fn count(alloc: Global, text: &str, out: &mut String) -> anyhow::Result<()> {
     }
 }
 
-/// The octets before a message of this many octets.
+/// The octets before a message of this number of octets.
 fn head(text: &str, out: &mut String) -> anyhow::Result<()> {
     let count: u16 = text.parse()?;
     ensure!(0 < count && count <= 4_096, "not 1 to 4,096 octets");
     push_octets(out, &frame_head(count))
 }
 
-/// Writes what a case of this module gives, and says whether it has one of this kind.
+/// Writes the result of a case of this kind. `false` if this module has no such cases.
 pub(crate) fn answer(
     alloc: Global,
     kind: &str,

@@ -1,25 +1,25 @@
-//! The invocations of a dialogue: what a component means to the invocation that it names, the identifiers and the time
-//! limits (ITU-T Q.774, 3.2, the invocation state machines, ISM).
+//! The invocations of a dialogue: the outcome of a component for the invocation that it names, the identifiers and the
+//! time limits (ITU-T Q.774, 3.2, the invocation state machines, ISM).
 //!
 //! A class is `class-1` to `class-4`. A moment is `NOON+N`, N milliseconds after 2024-05-06T12:00:00Z.
 //!
-//! | Case | What it gives |
+//! | Case | Result |
 //! |---|---|
 //! | `ism new` | a new list, with no invocation |
-//! | `ism start CLASS MOMENT` | the identifier of an invocation that starts, or what is in its way |
-//! | `ism result ID last`, `ism result ID not-last` | what a ReturnResult with this identifier means |
-//! | `ism error ID` | what a ReturnError means |
-//! | `ism reject ID` | what a Reject means |
-//! | `ism due MOMENT` | how many are due at this moment, and end |
+//! | `ism start CLASS MOMENT` | the identifier of an invocation that starts, or why it can't start |
+//! | `ism result ID last`, `ism result ID not-last` | the outcome of a ReturnResult with this identifier |
+//! | `ism error ID` | the outcome of a ReturnError |
+//! | `ism reject ID` | the outcome of a Reject |
+//! | `ism due MOMENT` | how many invocations are due at this moment, and end |
 //! | `ism class ID` | the class of the active invocation with this identifier, or `-` |
 //! | `ism testing` | whether a test of the dialogue is active |
-//! | `ism test-due MOMENT` | whether one is due at this moment |
-//! | `ism fail COUNT CLASS MOMENT` | so many start, and each gets its ReturnError before the next one: their identifiers |
-//! | `ism keep` | the list as it is, of which a copy is kept |
+//! | `ism test-due MOMENT` | whether a test is due at this moment |
+//! | `ism fail COUNT CLASS MOMENT` | the identifiers of COUNT invocations that start in turn, each after the ReturnError of the one before |
+//! | `ism keep` | the list, a copy of which is kept |
 //! | `ism kept` | the copy |
 //!
-//! After each comes the list: the identifiers that are active, of all from -128 to 127; the identifier that comes
-//! next; and the earliest moment at which one is due.
+//! Each result is followed by the list: the identifiers, among all from -128 to 127, that are active; the next
+//! identifier; and the earliest moment at which one is due.
 
 use crate::kinds::is_last;
 use crate::values::{NOON, after_noon};
@@ -29,7 +29,7 @@ use fp_digits::Moment;
 use fp_ism::{Invocations, Outcome};
 use fp_q773::OperationClass;
 
-/// What the cases before have left for the next ones.
+/// The state that cases leave for later ones.
 #[derive(Drop)]
 pub(crate) struct Scene {
     invocations: Invocations,
@@ -37,7 +37,7 @@ pub(crate) struct Scene {
 }
 
 impl Scene {
-    /// That of the first case.
+    /// The state before the first case.
     pub(crate) fn new() -> Scene {
         Scene {
             invocations: Invocations::new(),
@@ -45,7 +45,7 @@ impl Scene {
         }
     }
 
-    /// Writes what a case of this module gives, and says whether it has one of this kind.
+    /// Writes the result of a case of this kind. `false` if this module has no such cases.
     pub(crate) fn answer(
         &mut self,
         kind: &str,
@@ -60,7 +60,7 @@ impl Scene {
         Ok(true)
     }
 
-    /// Does what a text says, and writes what that gives.
+    /// Performs the operation of a text, and writes its result.
     fn ism(&mut self, text: &str, out: &mut String) -> anyhow::Result<()> {
         match text {
             "keep" => self.keep(out),
@@ -75,14 +75,14 @@ impl Scene {
         push_with("kept", &self.kept, out)
     }
 
-    /// Does to the list what a text says, and writes what that gives.
+    /// Performs the operation of a text on the list, and writes its result.
     fn change(&mut self, text: &str, out: &mut String) -> anyhow::Result<()> {
         change(&mut self.invocations, text, out)?;
         push_with("", &self.invocations, out)
     }
 }
 
-/// Does to a list what a text says, and writes what that gives.
+/// Performs the operation of a text on a list, and writes its result.
 fn change(list: &mut Invocations, text: &str, out: &mut String) -> anyhow::Result<()> {
     let (word, text) = first_word(text);
     match word {
@@ -107,7 +107,7 @@ fn anew(list: &mut Invocations, out: &mut String) -> anyhow::Result<()> {
     Ok(())
 }
 
-/// Starts an invocation, and writes its identifier or what is in its way.
+/// Starts an invocation, and writes its identifier, or why it can't start.
 fn start(list: &mut Invocations, text: &str, out: &mut String) -> anyhow::Result<()> {
     let (class, moment) = first_word(text);
     let class = class_of(class)?;
@@ -118,30 +118,30 @@ fn start(list: &mut Invocations, text: &str, out: &mut String) -> anyhow::Result
     Ok(())
 }
 
-/// Writes what a ReturnResult means.
+/// Writes the outcome of a ReturnResult.
 fn result(list: &mut Invocations, text: &str, out: &mut String) -> anyhow::Result<()> {
     let (identifier, last) = first_word(text);
     let outcome = list.result(identifier.parse()?, is_last(last)?);
     push_outcome(outcome, out)
 }
 
-/// Writes what a ReturnError means.
+/// Writes the outcome of a ReturnError.
 fn error(list: &mut Invocations, identifier: &str, out: &mut String) -> anyhow::Result<()> {
     push_outcome(list.error(identifier.parse()?), out)
 }
 
-/// Writes what a Reject means.
+/// Writes the outcome of a Reject.
 fn reject(list: &mut Invocations, identifier: &str, out: &mut String) -> anyhow::Result<()> {
     push_outcome(list.reject(identifier.parse()?), out)
 }
 
-/// Writes what a component means.
+/// Writes the outcome of a component.
 fn push_outcome(outcome: Outcome, out: &mut String) -> anyhow::Result<()> {
     write!(out, "{outcome:?}")?;
     Ok(())
 }
 
-/// Ends what is due, and writes how many that are.
+/// Ends the invocations that are due, and writes how many there were.
 fn due(list: &mut Invocations, moment: &str, out: &mut String) -> anyhow::Result<()> {
     let count = list.due(moment_of(moment)?);
     write!(out, "{count}")?;
@@ -168,7 +168,7 @@ fn push_answer(is: bool, out: &mut String) -> anyhow::Result<()> {
     Ok(())
 }
 
-/// Starts so many invocations one after the other, whose identifiers rise by one, and each of which fails.
+/// Starts this number of invocations in turn, and fails each one. Writes their identifiers, which rise by one.
 fn fail(list: &mut Invocations, text: &str, out: &mut String) -> anyhow::Result<()> {
     let (count, rest) = first_word(text);
     let (class, moment) = first_word(rest);
@@ -181,7 +181,7 @@ fn fail(list: &mut Invocations, text: &str, out: &mut String) -> anyhow::Result<
     Ok(())
 }
 
-/// The last identifier of so many invocations, each of which starts and fails.
+/// Starts and fails this number of invocations. Returns the identifier of the last one.
 fn last_failed(
     list: &mut Invocations,
     count: u8,
@@ -198,7 +198,7 @@ fn last_failed(
     Ok(expected.saturating_sub(1))
 }
 
-/// Starts an invocation as the next one, and its ReturnError is a failure: its identifier.
+/// Starts the next invocation and fails it by a ReturnError. Returns its identifier.
 fn failed(list: &mut Invocations, class: OperationClass, moment: Moment) -> anyhow::Result<i8> {
     let next = list.next();
     let identifier = list.start(class, moment)?;
@@ -211,7 +211,7 @@ fn failed(list: &mut Invocations, class: OperationClass, moment: Moment) -> anyh
     Ok(identifier)
 }
 
-/// The moment that a text `NOON+N` names.
+/// The moment of a text `NOON+N`.
 fn moment_of(text: &str) -> anyhow::Result<Moment> {
     match text.strip_prefix("NOON+") {
         Some(later) => Ok(after_noon(later.parse()?)),
@@ -219,7 +219,7 @@ fn moment_of(text: &str) -> anyhow::Result<Moment> {
     }
 }
 
-/// The class that a text names.
+/// The class of a text, `class-1` to `class-4`.
 fn class_of(text: &str) -> anyhow::Result<OperationClass> {
     match text {
         "class-1" => Ok(OperationClass::Class1),
@@ -230,7 +230,7 @@ fn class_of(text: &str) -> anyhow::Result<OperationClass> {
     }
 }
 
-/// Writes what was given, and a list.
+/// Writes a result, and the list after it.
 fn push_with(given: &str, list: &Invocations, out: &mut String) -> anyhow::Result<()> {
     write!(out, "{given}; active")?;
     push_active(list, out)?;

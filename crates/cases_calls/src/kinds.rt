@@ -1,6 +1,6 @@
 //! Kinds of entries, from words.
 //!
-//! | Entry | What it is |
+//! | Entry | Meaning |
 //! |---|---|
 //! | `opened none`, `opened known NAME`, `opened unknown NAME`, `opened bad-version NAME` | a Begin, and the application context name of its AARQ |
 //! | `initial-dp ID FOUND ..` | an Invoke of InitialDP. FOUND is a called number that has a record, also as `record NUMBER`, or `missing` (no key or no number), `wrong-key`, `no-record` |
@@ -13,8 +13,8 @@
 //! | `peer-end`, `peer-abort` | an End, an Abort |
 //! | `clock` | the clock |
 //!
-//! After an Invoke come, in any order, `linked ID`, and a calling number: `from DIGITS`, a national one, or
-//! `calling NATURE:DIGITS`. `none` is no identifier and no calling number, and `?` no identifier, too.
+//! After an Invoke there may be, in any order, `linked ID`, and a calling number: `from DIGITS`, a national one, or
+//! `calling NATURE:DIGITS`. `none` means no identifier or no calling number, and `?` no identifier.
 
 use crate::values::{name_of, national_number_of, number_of};
 use anyhow::bail;
@@ -61,7 +61,7 @@ fn opened_of(alloc: Global, text: &str) -> anyhow::Result<EntryKind> {
     }
 }
 
-/// The word after a key, if the key is in a text.
+/// The word after a key in a text; `None` if the text doesn't have the key.
 fn word_after<'a>(text: &'a str, key: &str) -> Option<&'a str> {
     match text.split_once(key) {
         Some((_, rest)) => Some(first_word(rest).0),
@@ -69,7 +69,7 @@ fn word_after<'a>(text: &'a str, key: &str) -> Option<&'a str> {
     }
 }
 
-/// The word after a key, or else the second word.
+/// The word after a key in a text, or the second word if the text doesn't have the key.
 fn name_in<'a>(text: &'a str, key: &str) -> &'a str {
     match word_after(text, key) {
         Some(word) => word,
@@ -129,7 +129,7 @@ fn initial_dp_of(table: &Table, text: &str) -> anyhow::Result<EntryKind> {
     })
 }
 
-/// What a table has of the called number of an InitialDP.
+/// The table's answer to the called number of an InitialDP.
 fn found_in(table: &Table, text: &str) -> anyhow::Result<Found> {
     if text.contains(" missing") {
         return Ok(Found::Missing);

@@ -1,13 +1,13 @@
-//! Worked cases from octets to the service logic, one a line: `INPUT => WANTED`. The library `cases` says how they are
-//! written and compared. The first word of a case names the reader, the writer or the call that it is about; each
-//! module has a table of its own. Some cases go on from the one before: what they need is in a scene.
+//! Worked cases from octets to the service logic, one a line: `INPUT => WANTED`. The library `cases` defines how they
+//! are written and compared. The first word of a case names the reader, the writer or the call that it tests; each
+//! module has a table of these. Some cases continue from the one before: a scene keeps the state that they need.
 //!
-//! | Module | What it is about |
+//! | Module | Subject |
 //! |---|---|
 //! | `ber` | elements of X.690 and their spellings |
 //! | `numbers` | numbers, causes and moments |
 //! | `frames` | frames and their heads |
-//! | `unit_data` | messages of SCCP, addresses, what is returned of them |
+//! | `unit_data` | messages of SCCP, addresses, and returned messages |
 //! | `connections` | messages of IPA, and the connections that carry them |
 //! | `network` | links to a signalling network |
 //! | `nodes` | nodes: their connections and their link, octet by octet |
@@ -17,13 +17,14 @@
 //! | `arguments` | operations of INAP and their arguments |
 //! | `records` | files of records, their faults, and the choice of a rule |
 //! | `invocations` | the invocations of a dialogue: outcomes, identifiers, time limits |
-//! | `entries` | what a message brings to its dialogue |
+//! | `entries` | the entries that a message gives its dialogue |
 //! | `steps` | the service step, entry by entry |
 //! | `dialogues` | whole dialogues, from frame to frame |
-//! | `deadlines` | deadlines by local identifier, and the identifiers that a link gives |
+//! | `deadlines` | deadlines by local identifier, and the identifiers that a link hands out |
 //!
-//! `elements` makes elements of text, and `values` moments, numbers, names, frames and identifiers; `texts` writes what
-//! several modules write. `kinds` has the kinds of entries, and `rows` files of records that grow row by row.
+//! `elements` reads elements from text, and `values` moments, numbers, names, frames and identifiers. `texts` has the
+//! writers that several modules share. `kinds` has the kinds of entries, and `rows` files of records that grow row by
+//! row.
 #![tactic(auto)]
 
 mod arguments;
@@ -52,7 +53,7 @@ mod values;
 use cases::{Answers, first_word};
 use std::alloc::Global;
 
-/// What answers the cases, with what those before have left for the next ones.
+/// Answers the cases, and keeps the state that cases leave for later ones.
 #[derive(Drop)]
 struct Scene {
     alloc: Global,
@@ -63,7 +64,7 @@ struct Scene {
     dialogues: dialogues::Scene,
 }
 
-/// Writes what a case without a scene gives, and says whether a module has one of this kind.
+/// Writes the result of a case without a scene. `false` if no module has cases of this kind.
 fn plain(alloc: Global, kind: &str, rest: &str, out: &mut String) -> anyhow::Result<bool> {
     Ok(
         ber::answer(alloc, kind, rest, out)?
@@ -82,7 +83,7 @@ fn plain(alloc: Global, kind: &str, rest: &str, out: &mut String) -> anyhow::Res
 }
 
 impl Scene {
-    /// Writes what a case of a scene gives, and says whether a module has one of this kind.
+    /// Writes the result of a case with a scene. `false` if no module has cases of this kind.
     fn of_scene(&mut self, kind: &str, rest: &str, out: &mut String) -> anyhow::Result<bool> {
         let alloc = self.alloc;
         Ok(
@@ -105,7 +106,7 @@ impl Answers for Scene {
     }
 }
 
-/// The scene of the first case.
+/// The state before the first case.
 fn first(alloc: Global) -> anyhow::Result<Scene> {
     let entries = entries::Scene::new(alloc)?;
     Ok(Scene {

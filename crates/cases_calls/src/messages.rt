@@ -1,11 +1,11 @@
-//! Messages and components of TCAP (Q.773): how they are read, what `ids_of` finds in octets that need not be a
-//! message, and how they are written.
+//! Messages and components of TCAP (Q.773): reading them, the identifiers that `ids_of` finds in octets that need not
+//! be a message, and writing them.
 //!
-//! | Case | What it gives |
+//! | Case | Result |
 //! |---|---|
 //! | `message HEX` | the message of these octets, with each of its fields, or `fault` and which |
 //! | `component HEX` | the component of these octets, in a Begin |
-//! | `invokes HEX` | of each component of the Begin of these octets, its identifier if it is an Invoke |
+//! | `invokes HEX` | the identifiers of the Invokes among the components of the Begin of these octets |
 //! | `identifiers HEX` | kind and transaction identifiers of these octets, whether they are a message or not; `HEX` may be left out |
 //! | `transaction HEX` | the transaction identifier of these octets, or `none`; `HEX` may be left out |
 //! | `identifier-of NUMBER` | the transaction identifier of a number |
@@ -15,8 +15,8 @@
 //! | `provider-cause VALUE` | the name of the cause of this value, or `none` |
 //! | `write MESSAGE` | the octets of a message; `written` has the messages |
 //!
-//! Elements, as parameters and dialogue portions, are shown by tag and contents without lengths: `04:AA` is an octet
-//! string, and `30(02:05 04:)` a sequence of an integer and an empty octet string.
+//! Elements, such as parameters and dialogue portions, are written by tag and contents, without lengths: `04:AA` is an
+//! octet string, and `30(02:05 04:)` a sequence of an integer and an empty octet string.
 
 mod aborts;
 mod components;
@@ -28,7 +28,7 @@ mod written;
 
 use std::alloc::Global;
 
-/// Writes what a case of this module gives, and says whether it has one of this kind.
+/// Writes the result of a case of this kind. `false` if this module has no such cases.
 pub(crate) fn answer(
     alloc: Global,
     kind: &str,

@@ -1,15 +1,15 @@
-//! Links to a signalling network: what their adaptor makes of messages of SCCP, and of the link's own.
+//! Links to a signalling network: their adaptor's results for messages of SCCP and for messages of the link.
 //!
-//! | Case | What it gives |
+//! | Case | Result |
 //! |---|---|
-//! | `adaptor OWN EXCHANGE UNITS EVENT ..` | what comes of each event on a link between these addresses whose connections may name UNITS units, and the counts that aren't 0 |
+//! | `adaptor OWN EXCHANGE UNITS EVENT ..` | the result of each event on a link between these addresses, whose connections may name UNITS units, and the counts that aren't 0 |
 //!
-//! | Event | What it is |
+//! | Event | Meaning |
 //! |---|---|
-//! | `came:K:UNIT` | connection K comes for a unit |
-//! | `ended:K` | connection K is over |
-//! | `received:K:HEX` | a message of SCCP comes by connection K |
-//! | `send:HEX` | a message of the link |
+//! | `came:K:UNIT` | connection K opens for a unit |
+//! | `ended:K` | connection K ends |
+//! | `received:K:HEX` | a message of SCCP is received on connection K |
+//! | `send:HEX` | the link sends a message |
 
 use anyhow::bail;
 use bytes::Bytes;
@@ -31,7 +31,7 @@ fn push_handed_on(out: &mut String, handed_on: &HandedOn) -> anyhow::Result<()> 
     push_octets(out, handed_on.message.octets())
 }
 
-/// Writes what comes of a message of the network.
+/// Writes the result of a message from the network.
 fn push_outcome(out: &mut String, outcome: &Outcome) -> anyhow::Result<()> {
     match outcome {
         Outcome::HandedOn(handed_on) => push_handed_on(out, handed_on),
@@ -43,7 +43,7 @@ fn push_outcome(out: &mut String, outcome: &Outcome) -> anyhow::Result<()> {
     }
 }
 
-/// Writes what becomes of a message of the link.
+/// Writes the result of a message from the link.
 fn push_sending(out: &mut String, sending: &Sending) -> anyhow::Result<()> {
     match sending {
         Sending::By(message) => {
@@ -63,7 +63,7 @@ fn parts(text: &str) -> (&str, &str) {
     }
 }
 
-/// Takes an event, and writes what comes of it.
+/// Handles an event, and writes its result.
 fn push_event(
     alloc: Global,
     out: &mut String,
@@ -133,7 +133,7 @@ fn address(alloc: Global, text: &str) -> anyhow::Result<Address> {
     }
 }
 
-/// What comes of the events of a link.
+/// The results of the events of a link.
 fn link(alloc: Global, text: &str, out: &mut String) -> anyhow::Result<()> {
     let (own, rest) = first_word(text);
     let (exchange, rest) = first_word(rest);
@@ -155,7 +155,7 @@ fn link(alloc: Global, text: &str, out: &mut String) -> anyhow::Result<()> {
     push_counts(out, &adaptor)
 }
 
-/// Writes what a case of this module gives, and says whether it has one of this kind.
+/// Writes the result of a case of this kind. `false` if this module has no such cases.
 pub(crate) fn answer(
     alloc: Global,
     kind: &str,

@@ -1,21 +1,24 @@
-//! Nodes: what becomes of the octets of their connections and of their link.
+//! Nodes: the effects of the octets of their connections and of their link.
 //!
-//! | Case | What it gives |
+//! | Case | Result |
 //! |---|---|
-//! | `node OWN EXCHANGE NAME,.. EVENT ..` | what a node with these units comes to after each event: what happened, the octets that are to be written (`K<HEX` to the connection in place K, `link<HEX`), and the connections whose writing side is to be shut (`K|`); all of that is done before the next event |
+//! | `node OWN EXCHANGE NAME,.. EVENT ..` | the effects of each event on a node with these units: what it reports, the octets to be written (`K<HEX` to the connection in place K, `link<HEX`), and the connections whose writing side is to be shut (`K|`); all of these are carried out before the next event |
 //!
-//! | Event | What it is |
+//! | Event | Meaning |
 //! |---|---|
-//! | `came:AT` | a connection comes at this time; it gets the first free place |
-//! | `received:K:HEX` | octets come by the connection in place K |
+//! | `came:AT` | a connection is accepted at this time, into the first free place |
+//! | `received:K:HEX` | octets are received on the connection in place K |
 //! | `over:K` | the peer of the connection in place K closed it |
 //! | `failed:K` | a read or a write of the connection in place K failed |
-//! | `link:HEX` | octets come from the link |
-//! | `links:N:HEX` | they come N times |
-//! | `tick:AT` | time goes by |
+//! | `link:HEX` | the link sends octets |
+//! | `links:N:HEX` | the link sends these octets N times |
+//! | `tick:AT` | the clock shows this time |
 //! | `drain:AT` | the node is to drain, from this time on |
+//! | `read:K:AT` | the connection in place K was read at this time, and its socket had no more |
+//! | `reads:K:AT:N` | that happens N times, and its socket may have more each time |
+//! | `common` | nothing happens, and it is written whether a connection has the common unit |
 //! | `down` | the link is down |
-//! | `counts` | nothing happens, and the numbers are written |
+//! | `counts` | no event; the counts are written |
 //!
 //! More than 10,000 octets for a connection are written as their number, `K<#N`.
 
@@ -28,7 +31,7 @@ use std::alloc::Global;
 use std::fmt::Write;
 use std::net::{Ipv4Addr, SocketAddr};
 
-/// How many octets for a connection are written.
+/// The most octets for a connection that are written as octets.
 const MOST_WRITTEN: usize = 10_000;
 
 /// The two parts of a text at its first colon.
@@ -75,7 +78,18 @@ fn receive_from_link(alloc: Global, node: &mut Node, text: &str, times: u32) -> 
     Ok(())
 }
 
-/// Lets an event happen.
+/// The connection in a place is read at a time, this number of times, and its socket may have more each time.
+fn read_often(node: &mut Node, place: usize, text: &str) -> anyhow::Result<()> {
+    let (at, times) = parts(text);
+    let at = at.parse()?;
+    let times: u32 = times.parse()?;
+    for _ in 0..times {
+        node.read_late(place, at, false);
+    }
+    Ok(())
+}
+
+/// Handles an event.
 fn happen(alloc: Global, node: &mut Node, event: &str) -> anyhow::Result<()> {
     let (kind, rest) = parts(event);
     let (first, second) = parts(rest);
@@ -92,13 +106,15 @@ fn happen(alloc: Global, node: &mut Node, event: &str) -> anyhow::Result<()> {
         "down" => node.close_all(),
         "tick" => node.tick(first.parse()?),
         "drain" => node.drain(first.parse()?),
-        "counts" => {}
+        "read" => node.read_late(first.parse()?, second.parse()?, true),
+        "reads" => read_often(node, first.parse()?, second)?,
+        "counts" | "common" => {}
         _ => bail!("no such event"),
     }
     Ok(())
 }
 
-/// Writes what happened.
+/// Writes the events that the node reports.
 fn push_events(out: &mut String, node: &mut Node) -> anyhow::Result<()> {
     for _ in 0..100 {
         let Some(event) = node.next_event() else {
@@ -117,8 +133,8 @@ fn push_many(out: &mut String, octets: &[u8]) -> anyhow::Result<()> {
     Ok(push_octets(out, octets)?)
 }
 
-/// Writes what waits for the connection in a place, and whether its writing side is to be shut, and clears the place if its
-/// connection is to be closed.
+/// Writes the octets that wait for the connection in a place, and whether its writing side is to be shut. Clears the
+/// place if its connection is to be closed.
 fn push_waiting(out: &mut String, node: &mut Node, place: usize) -> anyhow::Result<()> {
     if node.is_over(place) {
         node.clear(place);
@@ -137,7 +153,7 @@ fn push_waiting(out: &mut String, node: &mut Node, place: usize) -> anyhow::Resu
     Ok(())
 }
 
-/// Writes what waits for the link.
+/// Writes the octets that wait for the link.
 fn push_for_link(out: &mut String, node: &mut Node) -> anyhow::Result<()> {
     let count = node.waiting_for_link().len();
     if count > 0 {
@@ -148,7 +164,7 @@ fn push_for_link(out: &mut String, node: &mut Node) -> anyhow::Result<()> {
     Ok(())
 }
 
-/// Writes what a node comes to after an event.
+/// Writes the effects of an event on a node.
 fn push_effects(out: &mut String, node: &mut Node, event: &str) -> anyhow::Result<()> {
     push_events(out, node)?;
     for place in 0..Node::PLACES {
@@ -158,10 +174,14 @@ fn push_effects(out: &mut String, node: &mut Node, event: &str) -> anyhow::Resul
     if event == "counts" {
         write!(out, " {}", node.tally())?;
     }
+    if event == "common" {
+        let word = if node.has_no_common() { "none" } else { "one" };
+        write!(out, " {word}")?;
+    }
     Ok(())
 }
 
-/// What comes of the events of a node.
+/// The effects of the events of a node.
 fn node(alloc: Global, text: &str, out: &mut String) -> anyhow::Result<()> {
     let (own, rest) = first_word(text);
     let (exchange, rest) = first_word(rest);
@@ -181,7 +201,7 @@ fn node(alloc: Global, text: &str, out: &mut String) -> anyhow::Result<()> {
     Ok(())
 }
 
-/// Writes what a case of this module gives, and says whether it has one of this kind.
+/// Writes the result of a case of this kind. `false` if this module has no such cases.
 pub(crate) fn answer(
     alloc: Global,
     kind: &str,

@@ -1,8 +1,8 @@
 //! Numbers and causes (ITU-T Q.763, 3.9, 3.10 and 3.12; Q.850, 2.2), and moments.
 //!
-//! Octets are hexadecimal, and `empty` where there are none; so are digits, each 0 to F.
+//! Octets and digits, each 0 to F, are hexadecimal, and `empty` if there are none.
 //!
-//! | Case | What it gives |
+//! | Case | Result |
 //! |---|---|
 //! | `called HEX` | the number in the contents octets of a called party number, or `NoNumber` |
 //! | `calling HEX` | the number in the contents octets of a calling party number, or `NoNumber` |
@@ -44,7 +44,7 @@ fn push_number(out: &mut String, number: &Number) -> anyhow::Result<()> {
     push_digits(out, digits)
 }
 
-/// Writes a number that was read, or that there is none.
+/// Writes a number that was read, or `NoNumber`.
 fn push_read(out: &mut String, read: Result<Number, NoNumber>) -> anyhow::Result<()> {
     match read {
         Ok(number) => push_number(out, &number),
@@ -104,7 +104,7 @@ fn moment(text: &str, out: &mut String) -> anyhow::Result<()> {
     push_value(out, moment.map(|moment| moment.milliseconds()), "none")
 }
 
-/// Writes what a case of this module gives, and says whether it has one of this kind.
+/// Writes the result of a case of this kind. `false` if this module has no such cases.
 pub(crate) fn answer(
     alloc: Global,
     kind: &str,

@@ -1,14 +1,14 @@
 //! Cases of the dialogue portion of TCAP for structured dialogue (ITU-T Q.773, 4.2.3).
 //!
-//! | Case | What it gives |
+//! | Case | Result |
 //! |---|---|
-//! | `name HEX` | the octets that the application context name of these octets has, or `none` |
-//! | `name-lengths OCTET MOST` | the lengths, up to this one, at which repetitions of an octet are a name and kept as they come |
+//! | `name HEX` | the octets that an application context name made of these keeps, or `none` |
+//! | `name-lengths OCTET MOST` | the lengths, up to this one, at which repetitions of an octet are a name and are kept unchanged |
 //! | `same-name HEX HEX` | whether two names are equal: `yes` or `no` |
-//! | `opening NAMES PORTION` | what a dialogue portion opens where these names are accepted: `none`, `known NAME`, `unknown NAME` or `bad version NAME`; or `badly` |
+//! | `opening NAMES PORTION` | the dialogue that a dialogue portion opens if these names are accepted: `none`, `known NAME`, `unknown NAME` or `bad version NAME`; or `badly` |
 //! | `request NAMES APDU` | the same for the dialogue portion around this APDU, with indefinite lengths |
-//! | `answer NAME VERDICT` | the octets of the dialogue portion that answers `accepted`, `no-name` or `no-version` |
-//! | `abort` | those of the dialogue portion that aborts |
+//! | `answer NAME VERDICT` | the octets of the dialogue portion that answers with this VERDICT: `accepted`, `no-name` or `no-version` |
+//! | `abort` | the octets of the dialogue portion that aborts |
 //!
 //! Names have commas between them. `empty` is no octets, and `-` is no names or no dialogue portion.
 
@@ -31,7 +31,7 @@ fn names_of(alloc: Global, text: &str) -> anyhow::Result<Vec<Name>> {
     Ok(names)
 }
 
-/// The octets that the name of these octets has.
+/// The octets that a name made of these keeps, or `none`.
 fn name(alloc: Global, text: &str, out: &mut String) -> anyhow::Result<()> {
     let octets = octets_of(alloc, text)?;
     match Name::new(octets.as_slice()) {
@@ -40,7 +40,7 @@ fn name(alloc: Global, text: &str, out: &mut String) -> anyhow::Result<()> {
     }
 }
 
-/// Whether these octets are a name, and it has them.
+/// Whether these octets are a name, and the name keeps them unchanged.
 fn is_kept(octets: &[u8]) -> bool {
     match Name::new(octets) {
         Some(name) => name.as_slice() == octets,
@@ -48,7 +48,7 @@ fn is_kept(octets: &[u8]) -> bool {
     }
 }
 
-/// Writes a length after others.
+/// Writes a length, after a blank if others precede it.
 fn push_length(out: &mut String, length: u8) -> anyhow::Result<()> {
     if !out.is_empty() {
         out.push_str(" ")?;
@@ -78,13 +78,13 @@ fn same_name(alloc: Global, text: &str, out: &mut String) -> anyhow::Result<()> 
     Ok(out.push_str(if is_same { "yes" } else { "no" })?)
 }
 
-/// Writes what is opened, with its name.
+/// Writes the kind of an opening, with its name.
 fn push_named(out: &mut String, kind: &str, name: &Name) -> anyhow::Result<()> {
     out.push_str(kind)?;
     push_octets(out, name.as_slice())
 }
 
-/// Writes what is opened, or that it is no request.
+/// Writes an opening, or `badly`.
 fn push_opening(out: &mut String, found: Result<Opening, Badly>) -> anyhow::Result<()> {
     match &found {
         Ok(Opening::None) => Ok(out.push_str("none")?),
@@ -95,7 +95,7 @@ fn push_opening(out: &mut String, found: Result<Opening, Badly>) -> anyhow::Resu
     }
 }
 
-/// What a dialogue portion opens where these names are accepted.
+/// The opening in a dialogue portion, if these names are accepted.
 fn opened(alloc: Global, names: &[Name], portion: &str) -> anyhow::Result<Result<Opening, Badly>> {
     if portion == "-" {
         return Ok(opening_of(None, names));
@@ -104,15 +104,15 @@ fn opened(alloc: Global, names: &[Name], portion: &str) -> anyhow::Result<Result
     Ok(opening_of(Some(&portion), names))
 }
 
-/// What a dialogue portion opens.
+/// The opening in a dialogue portion.
 fn opening(alloc: Global, text: &str, out: &mut String) -> anyhow::Result<()> {
     let (names, portion) = first_word(text);
     let names = names_of(alloc, names)?;
     push_opening(out, opened(alloc, names.as_slice(), portion)?)
 }
 
-/// What the dialogue portion around an APDU opens: an EXTERNAL of the abstract syntax of dialogue APDUs, each
-/// element down to the APDU with an indefinite length.
+/// The opening in the dialogue portion around an APDU: an EXTERNAL of the abstract syntax of dialogue APDUs. Each
+/// element down to the APDU has an indefinite length.
 fn request(alloc: Global, text: &str, out: &mut String) -> anyhow::Result<()> {
     let (names, apdu) = first_word(text);
     let text = format!(in alloc; "{names} 6B802880060700118605010101A080{apdu}000000000000")?;
@@ -146,7 +146,7 @@ fn abort(alloc: Global, out: &mut String) -> anyhow::Result<()> {
     push_written(out, portion)
 }
 
-/// Writes what a case of this module gives, and says whether it has one of this kind.
+/// Writes the result of a case of this kind. `false` if this module has no such cases.
 pub(crate) fn answer(
     alloc: Global,
     kind: &str,

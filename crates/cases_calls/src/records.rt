@@ -1,24 +1,24 @@
-//! Files of records: what they hold, what is wrong with them, and the rule that a call gets.
+//! Files of records: their contents, their faults, and the rule that a call gets.
 //!
-//! A FILE is parts one after the other, none or more of them: `TEXT`, `COUNT*TEXT`, which is the text that number
-//! of times, or `FIRST..LAST*COUNT*TEXT`, which is the same for each number from the first to the last one, with the
-//! number before each text. In a text `\n`, `\r`, `\s` (a blank) and `\xHH` stand for an octet.
+//! A FILE is a sequence of parts, perhaps none: `TEXT`; `COUNT*TEXT`, the text COUNT times; or
+//! `FIRST..LAST*COUNT*TEXT`, the same for each number from the first to the last one, with the number before each text.
+//! In a text `\n`, `\r`, `\s` (a blank) and `\xHH` each mean one octet.
 //!
-//! DIGITS are hexadecimal, or `empty`. CALLING is the digits of a calling number, or `none` if there is none. A
-//! MOMENT is `2024-05-06T11:00:00Z` or with milliseconds `2024-05-06T11:00:00.000Z`.
+//! DIGITS are hexadecimal, or `empty`. CALLING is the digits of a calling number, or `none`. A MOMENT is written as
+//! `2024-05-06T11:00:00Z`, or with milliseconds as `2024-05-06T11:00:00.000Z`.
 //!
-//! | Case | What it gives |
+//! | Case | Result |
 //! |---|---|
-//! | `file FILE` | the key, and the numbers of numbers, rules and, if there are any, closed days, or the fault; the next cases use it |
-//! | `migrate FILE` | what a vector with the octet `>` has after the migration, as the text of a part, and then the fault if any |
+//! | `file FILE` | the service key, and how many numbers, rules and, if any, closed days the file has; or the fault. The next cases use this file |
+//! | `migrate FILE` | the contents of a vector, which had the octet `>`, after the migration, as the text of a part; then the fault, if any |
 //! | `other-file FILE` | the same for a second file, for `same-record` |
 //! | `find NATURE DIGITS` | the record of a called number, `national` or `international`: its rule if it has just one, else `several rules`; or `no record` |
 //! | `choose CALLED CALLING MOMENT BIRTH` | the rule that a call gets, or `no rule`, or `no record` |
 //! | `holds CALLED HH:MM` | whether the window of the number's only rule holds this minute |
-//! | `same-record CALLED` | whether the two files say the same of a number, asked of the one and of the other |
-//! | `destinations TEXT` | these destinations of a rule, and again without the first, and so on: the first, and those that are left |
-//! | `same-destinations TEXT TEXT` | whether two rules have the same destinations, asked of the one and of the other |
-//! | `fault memory` | the text of the fault that no memory is left |
+//! | `same-record CALLED` | whether the two files have the same record for a number, compared both ways |
+//! | `destinations TEXT` | the first of these destinations of a rule and the others, then the same for the others, and so on |
+//! | `same-destinations TEXT TEXT` | whether two rules have the same destinations, compared both ways |
+//! | `fault memory` | the text of the fault "out of memory" |
 
 mod files;
 mod only;
@@ -37,7 +37,7 @@ pub(crate) use only::{only_rule, routed_to};
 pub(crate) use rules::push_destinations;
 use std::alloc::Global;
 
-/// What the cases before have left for the next ones.
+/// The state that cases leave for later ones.
 #[derive(Drop)]
 pub(crate) struct Scene {
     file: Option<Table>,
@@ -45,7 +45,7 @@ pub(crate) struct Scene {
 }
 
 impl Scene {
-    /// That of the first case.
+    /// The state before the first case.
     pub(crate) fn new() -> Scene {
         Scene {
             file: None,
@@ -53,7 +53,7 @@ impl Scene {
         }
     }
 
-    /// Writes what a case of this module gives, and says whether it has one of this kind.
+    /// Writes the result of a case of this kind. `false` if this module has no such cases.
     pub(crate) fn answer(
         &mut self,
         alloc: Global,
@@ -79,7 +79,7 @@ impl Scene {
     }
 }
 
-/// Reads a file into the place of a table, which is empty if the file has a fault.
+/// Reads a file, and puts its table into `place`; nothing if the file has a fault.
 fn read(
     alloc: Global,
     place: &mut Option<Table>,
@@ -97,7 +97,7 @@ fn read(
     }
 }
 
-/// Writes what a file is migrated to, after an octet that was there before.
+/// Writes the migration of a file, appended to a vector with one octet.
 fn migrate_file(alloc: Global, text: &str, out: &mut String) -> anyhow::Result<()> {
     let file = file_of(alloc, text)?;
     let mut migrated = Vec::new(alloc);
@@ -113,13 +113,13 @@ fn migrate_file(alloc: Global, text: &str, out: &mut String) -> anyhow::Result<(
     }
 }
 
-/// Writes what is wrong with a file.
+/// Writes the fault of a file.
 fn push_fault(fault: RecordsFault, out: &mut String) -> anyhow::Result<()> {
     write!(out, "{fault}")?;
     Ok(())
 }
 
-/// Writes what a table holds.
+/// Writes the service key of a table, and how many numbers, rules and closed days it has.
 fn push_counts(place: &Option<Table>, out: &mut String) -> anyhow::Result<()> {
     let table = table_in(place)?;
     let (numbers, rules) = table.counts();
@@ -138,7 +138,7 @@ fn table_in(place: &Option<Table>) -> anyhow::Result<&Table> {
     }
 }
 
-/// Writes what a table has of a called number.
+/// Writes the table's answer to a called number.
 fn find(place: &Option<Table>, text: &str, out: &mut String) -> anyhow::Result<()> {
     let (nature, digits) = first_word(text);
     let nature = match nature {
@@ -218,7 +218,7 @@ fn holds(place: &Option<Table>, text: &str, out: &mut String) -> anyhow::Result<
     push_text(answer, out)
 }
 
-/// Writes whether two are the same, asked of the one and of the other.
+/// Writes whether two values are the same, as compared both ways.
 fn push_same(one: bool, other: bool, out: &mut String) -> anyhow::Result<()> {
     let text = match (one, other) {
         (true, true) => "the same",
@@ -228,7 +228,7 @@ fn push_same(one: bool, other: bool, out: &mut String) -> anyhow::Result<()> {
     push_text(text, out)
 }
 
-/// Writes whether two files say the same of a number.
+/// Writes whether two files have the same record for a number.
 fn same_record(
     place: &Option<Table>,
     other: &Option<Table>,
@@ -266,13 +266,13 @@ fn same_routes(one: &Table, other: &Table, out: &mut String) -> anyhow::Result<(
     push_same(one == other, other == one, out)
 }
 
-/// Writes the first of the destinations that a text spells and those that are left, and so on with those.
+/// Writes the first of the destinations of a text and the others, then the same for the others, and so on.
 fn in_turn(alloc: Global, text: &str, out: &mut String) -> anyhow::Result<()> {
     let table = routed_to(alloc, text)?;
     push_in_turn(&table, out)
 }
 
-/// Writes the first destination of a table's only rule and those that are left, and so on with those.
+/// Writes the first destination of a table's only rule and the others, then the same for the others, and so on.
 fn push_in_turn(table: &Table, out: &mut String) -> anyhow::Result<()> {
     let rule = only_rule(table, "5")?;
     let Action::Route(destinations) = rule.action else {
@@ -289,7 +289,7 @@ fn push_in_turn(table: &Table, out: &mut String) -> anyhow::Result<()> {
     Ok(())
 }
 
-/// Writes some destinations, the first of them, and those that are left, after a semicolon if there is more.
+/// Writes a list of destinations, its first one and the others, after a semicolon if there is text before it.
 fn push_split(list: &Destinations, out: &mut String) -> anyhow::Result<()> {
     let split = list.split_first();
     if !out.is_empty() {
@@ -303,7 +303,7 @@ fn push_split(list: &Destinations, out: &mut String) -> anyhow::Result<()> {
     push_left(&split.left, out)
 }
 
-/// Writes the destinations that are left.
+/// Writes the destinations after the first, or `none`.
 fn push_left(left: &Option<Destinations>, out: &mut String) -> anyhow::Result<()> {
     out.push_str(" and ")?;
     match left {

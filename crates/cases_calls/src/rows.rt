@@ -3,11 +3,11 @@
 use fp_records::Table;
 use std::alloc::Global;
 
-/// A file of records, and what is read from it.
+/// A file of records, and the table that is read from it.
 #[derive(Drop)]
 pub(crate) struct Rows {
     text: String,
-    // Nothing before the first record.
+    // `None` before the first record.
     table: Option<Table>,
 }
 
@@ -47,7 +47,7 @@ impl Rows {
         Ok(())
     }
 
-    /// What is read from it.
+    /// The table of the file.
     pub(crate) fn table(&self) -> anyhow::Result<&Table> {
         match &self.table {
             Some(table) => Ok(table),

@@ -1,15 +1,15 @@
 //! The service step, entry by entry. A scene keeps the records and the core of a dialogue from one case to the next.
 //!
-//! | Case | What it gives |
+//! | Case | Result |
 //! |---|---|
-//! | `step-table HEAD` | a file of records begins with this first record: how many numbers and rules it has |
-//! | `step-row ROW` | this record is added after it: the same |
-//! | `fresh`, `fresh BIRTH MS` | the core of a dialogue, the BIRTH-th of its link (else the first), whose Begin came so many milliseconds after noon (else at noon) |
-//! | `step MS ENTRY` | the core after this entry, which comes so many milliseconds after noon, and after it what is asked for |
+//! | `step-table HEAD` | begins a file of records with this first record: how many numbers and rules it has |
+//! | `step-row ROW` | adds this record to the file: the same |
+//! | `fresh`, `fresh BIRTH MS` | the core of a new dialogue, the BIRTH-th of its link (else the first), with its Begin MS milliseconds after noon (else at noon) |
+//! | `step MS ENTRY` | the core after this entry, MS milliseconds after noon, and then the request |
 //! | `core keep` | `kept`: the core is kept |
-//! | `again MS ENTRY` | as `step`, from the core that is kept |
+//! | `again MS ENTRY` | as `step`, from the kept core |
 //! | `core compare` | whether the core is the `same` as the kept one, or `different` |
-//! | `core itself` | the same, of the core and itself |
+//! | `core itself` | the same, for the core and itself |
 //!
 //! Noon is 2024-05-06T12:00:00Z, a Monday. `kinds` has the entries, `shown` cores and requests.
 
@@ -24,7 +24,7 @@ use fp_entry::Entry;
 use fp_service::{Core, step};
 use std::alloc::Global;
 
-/// What the cases before have left for the next ones.
+/// The state that cases leave for later ones.
 #[derive(Drop)]
 pub(crate) struct Scene {
     rows: Rows,
@@ -33,7 +33,7 @@ pub(crate) struct Scene {
 }
 
 impl Scene {
-    /// That of the first case: there are no records.
+    /// The state before the first case: no records.
     pub(crate) fn new(alloc: Global) -> Scene {
         Scene {
             rows: Rows::new(alloc),
@@ -42,7 +42,7 @@ impl Scene {
         }
     }
 
-    /// Writes what a case of this module gives, and says whether it has one of this kind.
+    /// Writes the result of a case of this kind. `false` if this module has no such cases.
     pub(crate) fn answer(
         &mut self,
         alloc: Global,
@@ -63,13 +63,13 @@ impl Scene {
         Ok(true)
     }
 
-    /// A dialogue begins, and its core is written.
+    /// Begins a dialogue, and writes its core.
     fn fresh(&mut self, text: &str, out: &mut String) -> anyhow::Result<()> {
         self.begin(if text.is_empty() { "1 0" } else { text })?;
         push_core(&self.core, out)
     }
 
-    /// A dialogue begins: which of its link, and when.
+    /// Begins a dialogue. The text has its number on its link, and its moment in milliseconds after noon.
     fn begin(&mut self, text: &str) -> anyhow::Result<()> {
         let (birth, milliseconds) = first_word(text);
         let birth = birth.parse()?;
@@ -78,7 +78,7 @@ impl Scene {
         Ok(())
     }
 
-    /// An entry comes.
+    /// Serves an entry.
     fn step(&mut self, alloc: Global, text: &str, out: &mut String) -> anyhow::Result<()> {
         let (milliseconds, kind) = first_word(text);
         let moment = after_noon(milliseconds.parse()?);
@@ -86,20 +86,20 @@ impl Scene {
         self.serve(alloc, &Entry { moment, kind }, out)
     }
 
-    /// An entry comes to the core that is kept.
+    /// Serves an entry from the kept core.
     fn step_again(&mut self, alloc: Global, text: &str, out: &mut String) -> anyhow::Result<()> {
         self.core = self.kept;
         self.step(alloc, text, out)
     }
 
-    /// Serves an entry, and writes the core after it and what is asked for.
+    /// Serves an entry, and writes the core after it and the request.
     fn serve(&mut self, alloc: Global, entry: &Entry, out: &mut String) -> anyhow::Result<()> {
         let (core, request) = step(alloc, &self.core, entry)?;
         self.core = core;
         push_served(&core, &request, out)
     }
 
-    /// A case about the core as a whole.
+    /// Keeps the core, or compares it with the kept one or itself.
     fn whole(&mut self, word: &str, out: &mut String) -> anyhow::Result<()> {
         let text = match word {
             "keep" => {
@@ -115,7 +115,7 @@ impl Scene {
     }
 }
 
-/// How two cores compare, whichever is asked about the other.
+/// Whether two cores are the same, compared both ways.
 fn comparison(core: &Core, other: &Core) -> &'static str {
     match (core == other, other == core) {
         (true, true) => "same",

@@ -1,12 +1,12 @@
 //! The lines of a reader, and octets written whole.
 //!
-//! | Case | What it gives |
+//! | Case | Result |
 //! |---|---|
-//! | `lines MOST READS READ ..` | the lines that are taken, if a line has at most MOST octets and at most READS reads may be made, each followed by `; `, and why no more: `end`, or a fault and how often the reader failed by then. The line FF is refused |
-//! | `write-all PIECE ROOM HEX` | what writing these octets answers, what the writer then holds, and how often it failed; it takes PIECE octets a write, and ROOM in all |
+//! | `lines MOST READS READ ..` | the lines that are taken, each followed by `; `, if a line has at most MOST octets and there are at most READS reads; then why there are no more: `end`, or a fault and how often the reader failed. The line FF is refused |
+//! | `write-all PIECE ROOM HEX` | the result of writing these octets, the contents of the writer afterwards, and how often it failed; the writer takes PIECE octets a write, and ROOM in all |
 //!
 //! A READ is the octets that one read gives, `interrupted`, or `fault`. After the last one the input is at its end.
-//! Lines and octets are hexadecimal, and `empty` where there are none.
+//! Lines and octets are hexadecimal, and `empty` if there are none.
 
 use cases::{first_word, octets_of, push_octets};
 use fp_streams::{Counted, LinesFault, TakesLine, follow_lines, write_all};
@@ -15,7 +15,8 @@ use std::fmt::Write;
 use std::io;
 use std::io::{ErrorKind, Read};
 
-/// A reader that gives what its words say, one a read. A word that spells no octets is a failure.
+/// A reader that gives the octets of one word in each read. The word `interrupted` interrupts the read, and a word that
+/// isn't octets makes it fail.
 #[derive(Drop)]
 struct Reads<'a> {
     alloc: Global,
@@ -61,7 +62,7 @@ impl io::Write for Pieces {
     }
 }
 
-/// Writes down each line that it takes.
+/// A taker of lines that writes each one down.
 #[derive(Drop)]
 struct Taken {
     text: String,
@@ -84,7 +85,7 @@ impl TakesLine for Taken {
     }
 }
 
-/// What is written after a line.
+/// The text after a line.
 fn after_line(has_line_feed: bool) -> &'static str {
     if has_line_feed {
         "; "
@@ -105,7 +106,7 @@ fn push_fault(out: &mut String, fault: LinesFault<anyhow::Error>) -> anyhow::Res
     Ok(write!(out, "line {number} {why}")?)
 }
 
-/// Writes the lines that are taken of a reader, and why no more.
+/// Writes the lines that are taken from a reader, and why there are no more.
 fn push_lines(
     out: &mut String,
     most_octets: usize,
@@ -125,7 +126,7 @@ fn push_lines(
     Ok(write!(out, ", {} failed", reader.failed)?)
 }
 
-/// The lines that are taken of a reader, and why no more.
+/// The lines that are taken from a reader, and why there are no more.
 fn lines(alloc: Global, text: &str, out: &mut String) -> anyhow::Result<()> {
     let (most, text) = first_word(text);
     let (reads, words) = first_word(text);
@@ -144,7 +145,7 @@ fn counted_pieces(alloc: Global, piece: &str, room: &str) -> anyhow::Result<Coun
     }))
 }
 
-/// Writes these octets by a writer of pieces, and to `out` what that answers.
+/// Writes these octets to a writer of pieces, and the result to `out`.
 fn push_written(
     out: &mut String,
     writer: &mut Counted<Pieces>,
@@ -156,7 +157,7 @@ fn push_written(
     }
 }
 
-/// What writing octets answers, what was written, and how often the writer failed.
+/// The result of writing octets, the octets written, and how often the writer failed.
 fn written(alloc: Global, text: &str, out: &mut String) -> anyhow::Result<()> {
     let (piece, text) = first_word(text);
     let (room, text) = first_word(text);
@@ -167,7 +168,7 @@ fn written(alloc: Global, text: &str, out: &mut String) -> anyhow::Result<()> {
     Ok(write!(out, ", {} failed", writer.failed)?)
 }
 
-/// Writes what a case of this module gives, and says whether it has one of this kind.
+/// Writes the result of a case of this kind. `false` if this module has no such cases.
 pub(crate) fn answer(
     alloc: Global,
     kind: &str,

@@ -4,7 +4,7 @@ use cases::push_octets;
 use fp_q773::Tid;
 use std::fmt::{Debug, Display, Write};
 
-/// Writes a value, or this word for none.
+/// Writes a value, or this word for `None`.
 pub(crate) fn push_value<T: Display + Drop>(
     out: &mut String,
     value: Option<T>,
@@ -17,7 +17,7 @@ pub(crate) fn push_value<T: Display + Drop>(
     Ok(())
 }
 
-/// Writes a value by its name, or this word for none.
+/// Writes a value by its name, or this word for `None`.
 pub(crate) fn push_name<T: Debug + Drop>(
     out: &mut String,
     value: Option<T>,

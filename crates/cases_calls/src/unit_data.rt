@@ -1,15 +1,15 @@
 //! Messages of SCCP: addresses, unit data, their return, and the subsystem test.
 //!
-//! | Case | What it gives |
+//! | Case | Result |
 //! |---|---|
-//! | `sccp HEX` | what a message is, or why it is none |
+//! | `sccp HEX` | the message of these octets, or their fault |
 //! | `address HEX` | the point code and the subsystem number of an address |
 //! | `address-of CODE NUMBER` | the octets of the address of a subsystem at a point code, or `none` for a number that is no point code |
-//! | `whole-address HEX` | the octets of an address that is given whole, or `none` |
+//! | `whole-address HEX` | the octets that an address made of these keeps, or `none` |
 //! | `udt CLASS CALLED CALLING DATA` | the octets of a UDT |
 //! | `udt-of COUNT` | how many octets a UDT between two addresses of 18 octets has, with COUNT octets of data |
-//! | `returned CAUSE HEX` | what is sent back for a message that is refused for this cause, or `none` |
-//! | `tested NUMBER HEX` | what is answered to a message if this subsystem is there, or `none` |
+//! | `returned CAUSE HEX` | the message that returns a message refused for this cause, or `none` |
+//! | `tested NUMBER HEX` | the answer to a message if this subsystem is in service, or `none` |
 
 use anyhow::{bail, ensure};
 use cases::{first_word, octets_of, push_octets};
@@ -61,7 +61,7 @@ fn word_of(kind: Kind) -> &'static str {
     }
 }
 
-/// Writes what a message is.
+/// Writes a message.
 fn push_message(out: &mut String, message: SccpMessage<'_>) -> anyhow::Result<()> {
     match message {
         SccpMessage::UnitData(message) => push_unit_data(out, word_of(message.kind), &message),
@@ -70,7 +70,7 @@ fn push_message(out: &mut String, message: SccpMessage<'_>) -> anyhow::Result<()
     }
 }
 
-/// What a message is, or why it is none.
+/// Writes the message of these octets, or their fault.
 fn message(alloc: Global, text: &str, out: &mut String) -> anyhow::Result<()> {
     let octets = octets_of(alloc, text)?;
     match read(octets.as_slice()) {
@@ -102,7 +102,7 @@ fn address_of(text: &str, out: &mut String) -> anyhow::Result<()> {
     push_octets(out, Address::of_point_code(code, number).as_slice())
 }
 
-/// The octets of an address that is given whole.
+/// The octets that an address made of these keeps, or `none`.
 fn whole_address(alloc: Global, text: &str, out: &mut String) -> anyhow::Result<()> {
     let octets = octets_of(alloc, text)?;
     match Address::new(octets.as_slice()) {
@@ -168,7 +168,7 @@ fn longest(alloc: Global, text: &str, out: &mut String) -> anyhow::Result<()> {
     Ok(write!(out, "{}", octets.len())?)
 }
 
-/// The unit data that a message is, whole or a segment.
+/// The unit data of a message, whole or a segment.
 fn unit_data_in(octets: &[u8]) -> anyhow::Result<UnitData<'_>> {
     match read(octets) {
         Ok(SccpMessage::UnitData(message)) => Ok(message),
@@ -185,7 +185,7 @@ fn push_written(out: &mut String, octets: Option<&Vec<u8>>) -> anyhow::Result<()
     }
 }
 
-/// What is sent back for a message that is refused.
+/// The message that returns a refused message.
 fn returned(alloc: Global, text: &str, out: &mut String) -> anyhow::Result<()> {
     let (cause, text) = first_word(text);
     let Some(cause) = ReturnCause::from_code(cause.parse()?) else {
@@ -197,7 +197,7 @@ fn returned(alloc: Global, text: &str, out: &mut String) -> anyhow::Result<()> {
     push_written(out, returned.as_ref())
 }
 
-/// What is answered to a message if a subsystem is there.
+/// The answer to a message if a subsystem is in service.
 fn tested(alloc: Global, text: &str, out: &mut String) -> anyhow::Result<()> {
     let (number, text) = first_word(text);
     let number = number.parse()?;
@@ -207,7 +207,7 @@ fn tested(alloc: Global, text: &str, out: &mut String) -> anyhow::Result<()> {
     push_written(out, answer.as_ref())
 }
 
-/// Writes what a case of this module gives, and says whether it has one of this kind.
+/// Writes the result of a case of this kind. `false` if this module has no such cases.
 pub(crate) fn answer(
     alloc: Global,
     kind: &str,

@@ -14,7 +14,7 @@ use std::alloc::Global;
 /// 2024-05-06T12:00:00Z, a Monday, in milliseconds since 1970-01-01T00:00:00Z.
 pub(crate) const NOON: u64 = 1_714_996_800_000;
 
-/// The moment so many milliseconds after noon.
+/// The moment this number of milliseconds after noon.
 pub(crate) fn after_noon(milliseconds: u32) -> Moment {
     Moment::new(NOON + u64::from(milliseconds)).unwrap()
 }
@@ -30,7 +30,7 @@ pub(crate) fn hexadecimal(octet: u8) -> anyhow::Result<u8>
     }
 }
 
-/// The digits that a text writes in hexadecimal, or `empty` for none.
+/// The digits in a hexadecimal text; `empty` means none.
 fn digits_of(text: &str) -> anyhow::Result<Digits> {
     let mut digits = Digits::new();
     if text == "empty" {

@@ -15,6 +15,7 @@ use Rattle.fp_network.specs.Changes.{closing}
 use Rattle.fp_network.specs.Course.{closed, closing_of}
 use Rattle.fp_network.specs.Endings.{Adds, AreEnded, Closes, ClosesOnly, ClosesRefused, EndsClosed, IsRefused, ends}
 use Rattle.fp_network.specs.Node.{LeavesOthers, connection_at, connection_in, ended_unless, is_over_at, is_over_of, refusal_of}
+use Rattle.fp_network.proofs.Tallied.{CoursesStay, over_same}
 
 pub closed_led : (over : Bool) (place : ℕ) (old new : Adaptor) (setting : Setting) (history : List Event)
     → (over ≡ true → new ≡ old) → (over ≡ false → Led old setting history → Led new setting (ended place ∷ history))
@@ -57,6 +58,24 @@ none_closed node = record { are_ended = tt; those = λ place. same (is_over_at n
 
 pub closes_none : (node : Node) → EndsClosed node node
 closes_none node = ([], none_closed node, λ setting history led. led)
+
+same_over : (old new : Bool) → new ≡ old → false ≡ (not old && new)
+same_over true new is = refl
+same_over false new is = sym is
+
+pub closes_courses : (old new : Node) → new.adaptor ≡ old.adaptor → CoursesStay old new → EndsClosed old new
+closes_courses old new own same = (
+  [],
+  record {
+    are_ended = tt;
+    those = λ place. same_over (is_over_at old place) (is_over_at new place) (over place);
+    stay = λ place was. over place ∙ was;
+  },
+  λ setting history led. subst (λ (own : Adaptor). Led own setting history) (sym own) led,
+)
+  where
+    over : (place : ℕ) → is_over_at new place ≡ is_over_at old place
+    over place = over_same (connection_in new place) (connection_in old place) (same place)
 
 -- some connections are closed, and then others
 pub closes_then : (old mid new : Node) (first then : List Event) → Closes old mid first → Closes mid new then → Closes old new (then ++ first)

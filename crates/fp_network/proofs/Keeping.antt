@@ -171,18 +171,18 @@ courses_answer outcomes.Nothing own = refl
 tied_comes : (arrival : Arrival) (setting : Setting) (history : List Event) (place : ℕ) (octets : List ℕ) (old new : Node) (more : List Event)
     → ComesTo setting history place octets arrival old new more → is_over_at old place ≡ false → IsTied old history
     → IsTied new (more ++ history)
-tied_comes Nothing setting history place octets old new more (is, places, link) lives tied =
+tied_comes Nothing setting history place octets old new more (is, places, link, skips) lives tied =
     subst (λ (l : List Event). IsTied new (l ++ history)) (sym is) (tied_lives old new history (lives_places old new places) tied)
-tied_comes Skipped setting history place octets old new more (is, places, link) lives tied =
+tied_comes Skipped setting history place octets old new more (is, places, link, skips) lives tied =
     subst (λ (l : List Event). IsTied new (l ++ history)) (sym is) (tied_lives old new history (lives_places old new places) tied)
-tied_comes (Active unit) setting history place octets old new more (earlier, events, comes, is, link, only) lives tied =
+tied_comes (Active unit) setting history place octets old new more (earlier, events, comes, is, link, only, skips) lives tied =
     subst (λ (l : List Event). IsTied new (l ++ history)) (sym is)
     (subst (λ (l : List Event). IsTied new l) (sym (append_assoc (ended_at old earlier) events history))
     (tied_only Replaced earlier old new (events ++ history) only (tied_came place unit earlier old setting history events comes lives tied)))
-tied_comes UnitData setting history place octets old new more (outcome, receives, link, here, others) lives tied =
+tied_comes UnitData setting history place octets old new more (outcome, receives, link, here, others, skips) lives tied =
     tied_received place octets outcome more new setting history receives
     (tied_courses old new history (courses_at place old new (ap course_of here ∙ courses_answer outcome (connection_in old place)) others) tied)
-tied_comes (Close why) setting history place octets old new more (is, link, only) lives tied =
+tied_comes (Close why) setting history place octets old new more (is, link, only, skips) lives tied =
     subst (λ (l : List Event). IsTied new (l ++ history)) (sym is) (tied_only why (Some place) old new history only tied)
 
 tied_steps : (setting : Setting) (history : List Event) (place : ℕ) (message : IpaMessage) (old new : Node)

@@ -11,5 +11,6 @@ mod News
 mod Tallied
 mod Ticking
 mod Tied
+mod Turns
 mod Waits
 mod Way

@@ -124,6 +124,7 @@ counts_more old mid new long first then = record {
       (reason_of (connection_in new place)) count (over_mid place) (why_none (connection_in mid place))
       (λ over. why_same (connection_in new place) (connection_in mid place) (then.stay place over)));
   stay = λ place over. then.stay place (over_mid place over) ∙ first.stay place over;
+  connections = then.connections ∙ first.connections;
   news = news_then old mid new first.news then.news;
 }
   where
@@ -140,14 +141,15 @@ not_closed why old new place same =
     unless_over why (is_over_at old place) (reason_of (connection_in new place))
     (λ lives. why_same (connection_in new place) (connection_in old place) same ∙ why_none (connection_in old place) lives)
 
-pub counts_same : (old new : Node) → ((why : Closing) → closings_of new.tally why ≡ closings_of old.tally why) → CoursesStay old new
-    → NewsGrow old new → Counts old new
-counts_same old new tally same news = record {
+pub counts_same : (old new : Node) → ((why : Closing) → closings_of new.tally why ≡ closings_of old.tally why)
+    → new.tally.connections ≡ old.tally.connections → CoursesStay old new → NewsGrow old new → Counts old new
+counts_same old new tally connections same news = record {
   each = λ why.
       tally why
       ∙ sym (below_none (length old.places.items) (closings_of old.tally why) (closes_for why old new)
       (λ place below. not_closed why old new place (same place)));
   stay = λ place over. same place;
+  connections = connections;
   news = news;
 }
 
@@ -158,7 +160,7 @@ courses_at place old new here others other = elim (cases_Bool (nat_eq other plac
   | inr apart ↦ ap course_of (others other (eqb-false other place apart))
 ]
 
-courses_map : (change : Connection → Connection) → ((own : Connection) → (change own).course ≡ own.course) → (own : Option Connection)
+pub courses_map : (change : Connection → Connection) → ((own : Connection) → (change own).course ≡ own.course) → (own : Option Connection)
     → course_of (option_map change own) ≡ course_of own
 courses_map change same None = refl
 courses_map change same (Some own) = ap Some (same own)
@@ -199,12 +201,13 @@ courses_arrived names drains stream octets (Some old) new arrival so =
 pub counts_at : (place : ℕ) (old new : Node) → course_at new place ≡ course_at old place → LeavesOthers place old new → new.tally ≡ old.tally
     → new.news ≡ old.news → Counts old new
 counts_at place old new here others tally news =
-    counts_same old new (λ why. ap (λ (t : Tally). closings_of t why) tally) (courses_at place old new here others) (news_same old new news)
+    counts_same old new (λ why. ap (λ (t : Tally). closings_of t why) tally) (ap (λ (t : Tally). t.connections) tally)
+    (courses_at place old new here others) (news_same old new news)
 
 -- a call changes no connection, and counts none
 pub counts_places : (old new : Node) → new.places ≡ old.places → new.tally ≡ old.tally → NewsGrow old new → Counts old new
 counts_places old new places tally news =
-    counts_same old new (λ why. ap (λ (t : Tally). closings_of t why) tally)
+    counts_same old new (λ why. ap (λ (t : Tally). closings_of t why) tally) (ap (λ (t : Tally). t.connections) tally)
     (λ place. ap (λ places. course_of (connection_at places.items place)) places) news
 
 pub counts_none : (old new : Node) → new.places ≡ old.places → new.tally ≡ old.tally → new.news ≡ old.news → Counts old new
@@ -236,9 +239,9 @@ pub counts_one : (why : Closing) (place : ℕ) (old new : Node) → connection_i
     → (is_over_at old place ≡ false → (other : Closing) → closings_of new.tally other ≡ closed_once_more why other (closings_of old.tally other))
     → (is_over_at old place ≡ true → new.news ≡ old.news)
     → (is_over_at old place ≡ false → (number : ℕ) × (number_of (connection_in old place) ≡ Some number) × Notes (Gone number why) old new)
-    → Counts old new
-counts_one why place old new here others stays counts silent reports = elim (cases_Bool (is_over_at old place)) [
-  | inl over ↦ counts_same old new (λ other. ap (λ (t : Tally). closings_of t other) (stays over))
+    → new.tally.connections ≡ old.tally.connections → Counts old new
+counts_one why place old new here others stays counts silent reports connections = elim (cases_Bool (is_over_at old place)) [
+  | inl over ↦ counts_same old new (λ other. ap (λ (t : Tally). closings_of t other) (stays over)) connections
       (courses_at place old new (ap course_of here ∙ closing_stays why (connection_in old place) over) others)
       (news_same old new (silent over))
   | inr lives ↦ record {
@@ -248,6 +251,7 @@ counts_one why place old new here others stays counts silent reports = elim (cas
         ∙ sym (below_one (length old.places.items) place (closings_of old.tally other) (closes_for other old new) (within lives)
         (λ away apart. not_closed other old new away (ap course_of (others away apart))));
     stay = λ other over. ap course_of (others other (λ is. false≢true (sym lives ∙ ap (is_over_at old) (sym is) ∙ over)));
+    connections = connections;
     news = let report = reports lives in news_noted (Gone report.0 why) old new report.2;
   }
 ]

@@ -1,10 +1,12 @@
--- A connection for which time is over is closed, and any other one is the same.
-use Rattle.std.proofs.Common.{◌≡◌, ℕ, Option, Some, None, refl, sym, ap}
+-- A connection for which time is over is closed, and any other one is the same. One that is late is closed by a read that
+-- finds nothing more, or by its last one.
+use Rattle.std.proofs.Common.{◌≡◌, ℕ, Bool, true, false, cond, Option, Some, None, refl, sym, ap}
 use Rattle.std.specs.Option.{option_map}
 use Rattle.fp_network.specs.declared.connection.Connection.{Connection}
 use Rattle.fp_network.specs.declared.event.Closing.{Closing}
-use Rattle.fp_network.specs.Changes.{closed_if, closing, ticking}
-use Rattle.fp_network.specs.Node.{overdue_of}
+use Rattle.fp_network.specs.declared.event.Closing.TheVariants.{Draining}
+use Rattle.fp_network.specs.Changes.{closed_if, closing, counting_read, reading_late, ticking}
+use Rattle.fp_network.specs.Node.{is_read_out_of, overdue_of}
 
 pub ticking_none : (at : ℕ) (own : Option Connection) → overdue_of at own ≡ None → own ≡ option_map (ticking at) own
 ticking_none at None is = refl
@@ -14,3 +16,15 @@ pub ticking_some : (at : ℕ) (why : Closing) (own : Option Connection) → over
     → option_map (closing why) own ≡ option_map (ticking at) own
 ticking_some at why None is = refl
 ticking_some at why (Some own) is = ap (λ (why : Option Closing). Some (closed_if why own)) (sym is)
+
+pub reading_goes_on : (at : ℕ) (found_no_more : Bool) (own : Option Connection) → is_read_out_of at found_no_more own ≡ false
+    → option_map (counting_read at) own ≡ option_map (reading_late at found_no_more) own
+reading_goes_on at found_no_more None is = refl
+reading_goes_on at found_no_more (Some own) is =
+    ap (λ (out : Bool). Some (cond out (closing Draining own) (counting_read at own))) (sym is)
+
+pub reading_ends : (at : ℕ) (found_no_more : Bool) (own : Option Connection) → is_read_out_of at found_no_more own ≡ true
+    → option_map (closing Draining) own ≡ option_map (reading_late at found_no_more) own
+reading_ends at found_no_more None is = refl
+reading_ends at found_no_more (Some own) is =
+    ap (λ (out : Bool). Some (cond out (closing Draining own) (counting_read at own))) (sym is)

@@ -23,7 +23,7 @@ way_none node = ([], none_closed node, λ setting history led. led, λ setting h
 
 -- none is closed for a message that is too long to be sent
 pub way_spared : (message : List ℕ) (node : Node) → MakesWayFor message node node
-way_spared message node = ([], none_closed node, λ setting history led. led, λ setting history led. tt, λ long. refl)
+way_spared message node = (([], none_closed node, λ setting history led. led, λ setting history led. tt), λ long. refl)
 
 -- one more connection is closed
 pub way_more : (old mid new : Node) (why : Closing) (place : ℕ) → MakesWay old mid

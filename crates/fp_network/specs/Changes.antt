@@ -1,11 +1,11 @@
 -- How a connection is changed by what happens to it and to its node. Moments are milliseconds.
-use Rattle.std.specs.Prelude.{◌≡◌, ℕ, ◌++◌, Bool, nat_le, if◌then◌else◌, List, Option, Some, None, drop, length}
+use Rattle.std.specs.Prelude.{◌≡◌, ℕ, ◌-◌, ◌++◌, Bool, ◌&&◌, ◌||◌, nat_le, if◌then◌else◌, List, Option, Some, None, drop, length}
 use Rattle.fp_ipa.specs.Message.{head_of}
 use Rattle.fp_network.specs.declared.connection.Connection.{Connection}
 use Rattle.fp_network.specs.declared.event.Closing.{Closing}
 use Rattle.fp_network.specs.declared.event.Closing.TheVariants.{Draining, Slow}
 use Rattle.fp_network.specs.Connection.{is_of_common}
-use Rattle.fp_network.specs.Course.{closed, drained, is_written, overdue, shut}
+use Rattle.fp_network.specs.Course.{closed, drained, is_late, is_written, overdue, shut}
 
 -- it is to be closed for a reason, unless it was for another one
 abbrev pub closing : Closing → Connection → Connection
@@ -42,6 +42,20 @@ closed_if (Some why) own = closing why own
 
 abbrev pub ticking : ℕ → Connection → Connection
 ticking at own = closed_if (overdue own.course own.state own.came_at at) own
+
+-- A read of its socket ends at this time, and it is closed by that: its node drains for two seconds, and the read found
+-- nothing more, or it was the last that the connection gets.
+abbrev pub is_read_out : ℕ → Bool → Connection → Bool
+is_read_out at found_no_more own = is_late own.course at && (found_no_more || nat_le own.reads_left 1)
+
+-- it gets one read less
+abbrev pub counting_read : ℕ → Connection → Connection
+counting_read at own =
+    record own { reads_left = if is_late own.course at then own.reads_left - 1 else own.reads_left }
+
+abbrev pub reading_late : ℕ → Bool → Connection → Connection
+reading_late at found_no_more own =
+    if is_read_out at found_no_more own then closing Draining own else counting_read at own
 
 -- a megabyte waits for it
 abbrev pub is_slow : Connection → Bool

@@ -58,11 +58,12 @@ number_of None = None
 number_of (Some own) = Some own.number
 
 -- Each connection that a call closes is counted once, for its reason. One that was to be closed before still is, for the
--- same reason, and isn't counted. Events only follow those that weren't returned.
+-- same reason, and isn't counted. None comes. Events only follow those that weren't returned.
 pub record Counts (old new : Node) : Type 0 where
   pub each :
       (why : Closing)
       → closings_of new.tally why
       ≡ counted_below (length old.places.items) (closes_for why old new) (closings_of old.tally why)
   pub stay : (place : ℕ) → is_over_at old place ≡ true → course_at new place ≡ course_at old place
+  pub connections : new.tally.connections ≡ old.tally.connections
   pub news : NewsGrow old new

@@ -66,11 +66,18 @@ is_unnamed Closed came_at at = nat_le 5000 (at - came_at)
 abbrev pub is_drained : ℕ → ℕ → Bool
 is_drained since at = nat_le 2000 (at - since)
 
--- why it is to be closed, if time is over for it
+-- its node drains for two seconds, and it isn't to be closed: it is, once its socket is read out
+abbrev pub is_late : Course → ℕ → Bool
+is_late Open at = false
+is_late (Draining since) at = is_drained since at
+is_late (Shut since) at = is_drained since at
+is_late (Over why) at = false
+
+-- why it is to be closed, if time is over for it, whatever its socket has
 abbrev pub overdue : Course → State → ℕ → ℕ → Option Closing
 overdue Open state came_at at = then_some (is_unnamed state came_at at) reasons.Silent
-overdue (Draining since) state came_at at = then_some (is_drained since at) reasons.Draining
-overdue (Shut since) state came_at at = then_some (is_drained since at) reasons.Draining
+overdue (Draining since) state came_at at = None
+overdue (Shut since) state came_at at = None
 overdue (Over why) state came_at at = None
 
 -- the octets that an action sends, if any are sent

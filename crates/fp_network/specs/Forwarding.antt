@@ -50,10 +50,7 @@ MakesWay old new =
 -- connections are closed, and each was in the way of this message; none is in the way of one that is too long to be sent
 abbrev pub MakesWayFor : List ℕ → Node → Node → Type 0
 MakesWayFor message old new =
-    (closed : List Event) × Closes old new closed × Adds old.adaptor new.adaptor closed
-    × ((setting : Setting) (history : List Event) → Led old.adaptor setting history
-    → InTheWay history closed)
-    × (most_data < length message → closed ≡ [])
+    (way : MakesWay old new) × (most_data < length message → way.0 ≡ [])
 
 -- A message of the link goes where its adaptor sends it, after connections that take none are closed: those by which it
 -- would have gone, and no others. For a message that is too long to be sent none is closed. The units and whether the

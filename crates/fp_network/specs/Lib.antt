@@ -9,4 +9,5 @@ pub mod Node
 pub mod Receiving
 pub mod Stepping
 pub mod Tally
+pub mod Turns
 pub mod Units

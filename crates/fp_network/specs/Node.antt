@@ -1,6 +1,6 @@
 -- What a node shows: the connection in each place, what waits to be written to it, and what waits for the link; and how a
 -- call changes these.
-use Rattle.std.specs.Prelude.{◌≡◌, ◌≢◌, ◌<◌, ◌==◌, ℕ, Bool, true, false, not, if◌then◌else◌, List, [], ◌∷◌, ◌++◌, Option, Some, None, get_or, is_none, is_some, length}
+use Rattle.std.specs.Prelude.{◌≡◌, ◌≢◌, ◌<◌, ◌==◌, ℕ, Bool, true, false, not, ◌&&◌, if◌then◌else◌, List, [], ◌∷◌, ◌++◌, Option, Some, None, get_or, is_none, is_some, length}
 use Rattle.std.specs.List.{flat_map}
 use Rattle.std.specs.Option.{option_map}
 use Rattle.fp_adaptor.specs.declared.adaptor.HandedOn.{HandedOn}
@@ -15,8 +15,9 @@ use Rattle.fp_network.specs.declared.course.Course.TheVariants.{Open}
 use Rattle.fp_network.specs.declared.event.Closing.{Closing}
 use Rattle.fp_network.specs.declared.node.Node.{Node}
 use Rattle.fp_network.specs.declared.plan.Plan.{Plan}
-use Rattle.fp_network.specs.Changes.{refusal}
-use Rattle.fp_network.specs.Course.{closing_of, is_draining, overdue}
+use Rattle.fp_network.specs.Changes.{is_read_out, refusal}
+use Rattle.fp_network.specs.Connection.{is_of_common}
+use Rattle.fp_network.specs.Course.{closing_of, is_draining, is_late, overdue}
 use Rattle.fp_network.specs.Frames.{frames_of}
 use Rattle.fp_network.specs.Units.{own_first}
 
@@ -64,6 +65,21 @@ abbrev pub overdue_of : ℕ → Option Connection → Option Closing
 overdue_of at None = None
 overdue_of at (Some own) = overdue own.course own.state own.came_at at
 
+-- its node drains for two seconds, and it isn't to be closed
+abbrev pub is_late_of : ℕ → Option Connection → Bool
+is_late_of at None = false
+is_late_of at (Some own) = is_late own.course at
+
+-- it is closed by a read that ends at this time
+abbrev pub is_read_out_of : ℕ → Bool → Option Connection → Bool
+is_read_out_of at found_no_more None = false
+is_read_out_of at found_no_more (Some own) = is_read_out at found_no_more own
+
+-- it has the common unit, or may get it, and isn't to be closed
+abbrev pub has_common_of : ℕ → Option Connection → Bool
+has_common_of units None = false
+has_common_of units (Some own) = not (is_some (closing_of own.course)) && is_of_common units own.state
+
 -- why a connection takes no message of the link, if there is one that doesn't
 abbrev pub refusal_of : Option Connection → Option Closing
 refusal_of None = None
@@ -81,7 +97,7 @@ abbrev pub IsNew : ℕ → Option Connection → Type 0
 IsNew at None = ⊥
 IsNew at (Some connection) =
     (connection.state ≡ Asked) × (connection.course ≡ Open) × (connection.came_at ≡ at) × (connection.reader ≡ [])
-    × (connection.waiting ≡ 0 ∷ 3 ∷ 254 ∷ 4 ∷ 1 ∷ 1 ∷ [])
+    × (connection.waiting ≡ 0 ∷ 3 ∷ 254 ∷ 4 ∷ 1 ∷ 1 ∷ []) × (connection.reads_left ≡ 2048)
 
 -- the connections in all other places are the same
 abbrev pub LeavesOthers : ℕ → Node → Node → Type 0

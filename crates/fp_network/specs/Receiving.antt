@@ -4,6 +4,7 @@ use Rattle.fp_adaptor.specs.declared.adaptor.Outcome.{Outcome}
 use Rattle.fp_adaptor.specs.declared.adaptor.Outcome.TheVariants as outcomes
 use Rattle.fp_adaptor.specs.declared.setting.Setting.{Setting}
 use Rattle.fp_adaptor.specs.Adaptor.{Comes, Led, Receives}
+use Rattle.fp_adaptor.specs.Counted.{one_more}
 use Rattle.fp_adaptor.specs.History.{Event}
 use Rattle.fp_ipa.specs.declared.fault.IpaFault.{IpaFault}
 use Rattle.fp_ipa.specs.declared.fault.IpaFault.TheVariants as faults
@@ -26,6 +27,11 @@ pub record OnlyAt (place : ℕ) (old new : Node) : Type 0 where
   pub others : LeavesOthers place old new
   pub link : LeavesLink old new
   pub adaptor : new.adaptor ≡ old.adaptor
+  pub tally : new.tally ≡ old.tally
+
+-- no message is skipped
+abbrev pub SkipsNone : Node → Node → Type 0
+SkipsNone old new = new.tally.skipped ≡ old.tally.skipped
 
 -- octets are to be read after those that are
 abbrev pub feeding : List ℕ → Connection → Connection
@@ -60,21 +66,22 @@ answering outcomes.Nothing own = own
 -- what a message of these octets, by the connection in a place, comes to, and the events of it
 abbrev pub ComesTo : Setting → List Event → ℕ → List ℕ → Arrival → Node → Node → List Event → Type 0
 ComesTo setting history place octets Nothing old new more =
-    (more ≡ []) × (new.places ≡ old.places) × (for_link new ≡ for_link old)
+    (more ≡ []) × (new.places ≡ old.places) × (for_link new ≡ for_link old) × SkipsNone old new
 ComesTo setting history place octets Skipped old new more =
     (more ≡ []) × (new.places ≡ old.places) × (for_link new ≡ for_link old)
+    × (new.tally.skipped ≡ one_more old.tally.skipped)
 ComesTo setting history place octets (Active unit) old new more =
     (earlier : Option ℕ) × (came : List Event) × Comes setting history place unit earlier came
     × (more ≡ ended_at old earlier ++ came) × (for_link new ≡ for_link old)
-    × ClosesOnly Replaced earlier old new
+    × ClosesOnly Replaced earlier old new × SkipsNone old new
 ComesTo setting history place octets UnitData old new more =
     (outcome : Outcome) × Receives setting history place octets outcome more
     × (for_link new ≡ for_link old ++ frames_for outcome)
     × (connection_in new place ≡ answering outcome (connection_in old place))
-    × LeavesOthers place old new
+    × LeavesOthers place old new × SkipsNone old new
 ComesTo setting history place octets (Close why) old new more =
     (more ≡ ended_unless (is_over_at old place) place) × (for_link new ≡ for_link old)
-    × ClosesOnly why (Some place) old new
+    × ClosesOnly why (Some place) old new × SkipsNone old new
 
 abbrev pub Results : ℕ → List ℕ → Arrival → Node → Node → Type 0
 Results place octets arrival old new =
@@ -103,7 +110,7 @@ EndsAt place old new more =
     × OnlyAt place old new)
     ⊎ (FaultIn (connection_in old place) faults.TooLong
     × (more ≡ ended_unless (is_over_at old place) place)
-    × LeavesLink old new × ClosesOnly TooLong (Some place) old new)
+    × LeavesLink old new × ClosesOnly TooLong (Some place) old new × SkipsNone old new)
 
 -- the next message, or the end
 abbrev pub NextOrEnd : ℕ → Node → Node → Option IpaMessage → Type 0

@@ -9,14 +9,14 @@ ghost use Rattle.fp_ipa.specs.StreamIdentifier.{IsByName};
 ghost use Rattle.fp_ipa.specs.View.{message_value};
 ghost use Rattle.fp_network.specs.Connection.{arrival_by, is_last, is_of_common, why_closed};
 ghost use Rattle.fp_network.specs.declared.course.Course.TheVariants.{Open};
-ghost use Rattle.fp_network.specs.Course.{closed, closing_of, drained, is_draining, is_written, octets_for, overdue, shut};
-ghost use Rattle.fp_network.specs.Changes.{IsLonger, is_slow, refusal, sending};
+ghost use Rattle.fp_network.specs.Course.{closed, closing_of, drained, is_draining, is_late, is_written, octets_for, overdue, shut};
+ghost use Rattle.fp_network.specs.Changes.{IsLonger, counting_read, is_read_out, is_slow, refusal, sending};
 ghost use Rattle.fp_network.specs.Receiving.{NextIf};
 ghost use Rattle.fp_network.specs.Stepping.{Arrives, Stepped};
 
 use crate::Closing;
 use crate::arrival::{Arrival, arrival_by, is_last, step_of, why_closed};
-use crate::course::{Course, closed, closing_of, drained, octets_for, overdue, shut};
+use crate::course::{Course, closed, closing_of, drained, is_late, octets_for, overdue, shut};
 use crate::waiting::Waiting;
 use fp_ipa::{
     ASKS, IpaFault, IpaMessage, IpaReader, State, StreamIdentifier, UnitName, message_head,
@@ -26,6 +26,11 @@ use std::alloc::{AllocError, Global};
 
 /// How many octets may wait for a connection.
 const MOST_WAITING: usize = 1_048_576;
+
+/// How many reads of its socket a connection gets once its node drains for two seconds, if none of
+/// them finds the socket empty. A read takes 16,384 octets, so these are 32 megabytes. By default
+/// Linux keeps less for a socket, or as much: 6 megabytes, or 32.
+const MOST_LATE_READS: u64 = 2_048;
 
 /// A connection of a transfer point.
 #[derive(Drop)]
@@ -39,6 +44,8 @@ pub(crate) struct Connection {
     // When it was accepted, in milliseconds.
     came_at: u64,
     course: Course,
+    // How many reads of its socket it still gets once its node drains for two seconds.
+    reads_left: u64,
 }
 
 impl Connection {
@@ -51,6 +58,7 @@ impl Connection {
         ensures reader { IfOk result (λ own. own.reader ≡ []) }
         ensures came { IfOk result (λ own. own.came_at ≡ came_at) }
         ensures open { IfOk result (λ own. own.course ≡ Open) }
+        ensures reads { IfOk result (λ own. own.reads_left ≡ 2048) }
     {
         let mut waiting = Waiting::new(alloc);
         waiting.push(&ASKS)?;
@@ -61,6 +69,7 @@ impl Connection {
             waiting,
             came_at,
             course: Course::Open,
+            reads_left: MOST_LATE_READS,
         })
     }
 
@@ -131,6 +140,30 @@ impl Connection {
         ensures { result ≡ overdue self.now.course self.now.state self.now.came_at at }
     {
         overdue(self.course, self.state, self.came_at, at)
+    }
+
+    /// Whether its node drains for two seconds at this time, and it isn't to be closed.
+    pub(crate) fn is_late(&self, at: u64) -> bool
+        ensures { result ≡ is_late self.now.course at }
+    {
+        is_late(self.course, at)
+    }
+
+    /// Whether a read of its socket that ends at this time closes it: its node drains for two
+    /// seconds, and the read found no more, or it was the last one that the connection gets.
+    pub(crate) fn is_read_out(&self, at: u64, found_no_more: bool) -> bool
+        ensures { result ≡ is_read_out at found_no_more self.now }
+    {
+        self.is_late(at) && (found_no_more || self.reads_left <= 1)
+    }
+
+    /// Counts a read of its socket that ends at this time, if its node drains for two seconds.
+    pub(crate) fn count_read(&mut self, at: u64)
+        ensures { self.new ≡ counting_read at self.old }
+    {
+        if self.is_late(at) {
+            self.reads_left = self.reads_left.saturating_sub(1);
+        }
     }
 
     /// Whether it has the last of this number of units, which several nodes have in common.

@@ -3,7 +3,7 @@
 ghost use Rattle.std.specs.Prelude.{◌≡◌, ◌<◌, ◌-◌, [], nat_le};
 ghost use Rattle.fp_ipa.specs.declared.connection.State.TheVariants.{Asked};
 ghost use Rattle.fp_network.specs.declared.course.Course.TheVariants.{Open};
-ghost use Rattle.fp_network.specs.Course.{closed, closing_of, drained, is_drained, is_unnamed, octets_for, overdue, shut};
+ghost use Rattle.fp_network.specs.Course.{closed, closing_of, drained, is_drained, is_late, is_unnamed, octets_for, overdue, shut};
 
 use crate::Closing;
 use fp_ipa::{Action, State};
@@ -12,8 +12,8 @@ use fp_ipa::{Action, State};
 const MILLISECONDS_TO_NAME: u64 = 5_000;
 
 /// For how many milliseconds a connection is read once its node drains, if its peer doesn't close
-/// it.
-pub const MILLISECONDS_TO_DRAIN: u64 = 2_000;
+/// it. Then it is closed as soon as its socket is read out.
+const MILLISECONDS_TO_DRAIN: u64 = 2_000;
 
 /// How far a connection is from its end. Moments are milliseconds.
 #[derive(Clone, Copy, Debug, PartialEq, Eq)]
@@ -55,14 +55,27 @@ fn is_drained(since: u64, at: u64) -> bool
     went_by(MILLISECONDS_TO_DRAIN, since, at)
 }
 
-/// Why a connection is to be closed at this time, if time is over for it.
+/// Whether the node of a connection drains for two seconds at this time, and the connection isn't to
+/// be closed.
+pub(crate) fn is_late(course: Course, at: u64) -> bool
+    ensures { result ≡ is_late course at }
+{
+    match course {
+        Course::Open => false,
+        Course::Draining(since) => is_drained(since, at),
+        Course::Shut(since) => is_drained(since, at),
+        Course::Over(_) => false,
+    }
+}
+
+/// Why a connection is to be closed at this time, if time is over for it, whatever its socket has.
 pub(crate) fn overdue(course: Course, state: State, came_at: u64, at: u64) -> Option<Closing>
     ensures { result ≡ overdue course state came_at at }
 {
     match course {
         Course::Open => is_unnamed(state, came_at, at).then_some(Closing::Silent),
-        Course::Draining(since) => is_drained(since, at).then_some(Closing::Draining),
-        Course::Shut(since) => is_drained(since, at).then_some(Closing::Draining),
+        Course::Draining(_) => None,
+        Course::Shut(_) => None,
         Course::Over(_) => None,
     }
 }

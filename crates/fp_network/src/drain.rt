@@ -9,6 +9,8 @@ use std::sync::atomic::{AtomicBool, Ordering};
 #[derive(Drop)]
 pub struct Drain {
     is_set: AtomicBool,
+    // Whether the node drains and no connection has the common unit any more.
+    has_closed: AtomicBool,
     has_own_unit: bool,
 }
 
@@ -19,6 +21,7 @@ impl Drain {
     {
         Drain {
             is_set: AtomicBool::new(false),
+            has_closed: AtomicBool::new(false),
             has_own_unit,
         }
     }
@@ -37,5 +40,16 @@ impl Drain {
     /// Whether it is to drain.
     pub fn is_set(&self) -> bool {
         self.is_set.load(Ordering::SeqCst)
+    }
+
+    /// Notes that the node drains and no connection has the common unit any more.
+    pub(crate) fn close(&self) {
+        self.has_closed.store(true, Ordering::SeqCst);
+    }
+
+    /// Whether the node drains and no connection has the common unit any more. All messages that
+    /// were read of such a connection and handed on wait for the link then, or were read from it.
+    pub fn has_closed(&self) -> bool {
+        self.has_closed.load(Ordering::SeqCst)
     }
 }

@@ -37,9 +37,9 @@
 //! | the link ends | octets that wait are written, and all connections are closed, as below |
 //!
 //! A node that drains shuts the connection of the common unit for sending once others are there to
-//! send by, and reads it until its peer closes it. After two seconds the connection is closed, even
-//! if no other is there to send by. Octets that wait for it are dropped then. No other connection
-//! is accepted for the common unit.
+//! send by, and reads it until its peer closes it. After two seconds the connection is closed once
+//! its socket is read out, or after 2,048 more reads, even if no other is there to send by. Octets
+//! that wait for it are dropped then. No other connection is accepted for the common unit.
 //!
 //! Once the link ends, octets that wait are written, and the sending sides are shut. Octets of
 //! connections are dropped until their peers close them. After two seconds all are closed.
@@ -61,7 +61,8 @@
 //! earlier wake-up ends its wait at once. While the reading thread does something else no
 //! connection is read. For example, a PING gets its PONG only after that.
 //!
-//! While 64 kilobytes wait for the link no connection is read, unless the link has ended.
+//! While 64 kilobytes wait for the link no connection is read, unless the link has ended. Each turn
+//! begins at the connection after the one that was read last.
 //!
 //! The layer above may rely on the contracts of [`Node`]:
 //!
@@ -96,12 +97,12 @@ mod keep_alive;
 mod network_link;
 mod node;
 mod plan;
+mod rotation;
 mod sockets;
 mod source;
 mod tally;
 mod waiting;
 
-pub use course::MILLISECONDS_TO_DRAIN;
 pub use drain::Drain;
 pub use event::{Closing, NetworkEvent, reasons_are_listed};
 pub use fault::NetworkFault;
@@ -109,4 +110,5 @@ pub use keep_alive::watch_peer;
 pub use network_link::NetworkLink;
 pub use node::Node;
 pub use plan::Plan;
+pub use rotation::turns_have_each_place;
 pub use tally::Tally;

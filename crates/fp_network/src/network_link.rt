@@ -116,21 +116,19 @@ impl NetworkLink {
         sockets.rest(most.min(Duration::from_millis(LOOK_MILLISECONDS)))
     }
 
-    /// Drives the network for this time, before the link is read: connections are accepted and
-    /// asked for their units, and their messages wait for the link.
-    pub fn wait<R: Wait + Clock>(&self, rt: &R, most: Duration) {
-        let start = Instant::now(rt).ok();
+    /// Drives the network once before the link is read: waits until sockets are ready, for this
+    /// time at most. Then connections are accepted and asked for their units, and their messages
+    /// wait for the link. `false`: the network is over.
+    ///
+    /// You must fetch the events after each call ([`NetworkLink::next_event`]), since nothing
+    /// bounds their number but memory.
+    pub fn wait<R: Wait + Clock>(&self, rt: &R, most: Duration) -> bool {
         let mut waiter = self.waiter.lock(rt);
-        for _ in rt.forever() {
-            let since = start
-                .and_then(|start| start.elapsed(rt).ok())
-                .unwrap_or(most);
-            let left = most.saturating_sub(since);
-            if left.is_zero() || self.sockets.lock(rt).is_over() {
-                return;
-            }
-            self.drive(rt, &mut waiter, left);
+        if self.sockets.lock(rt).is_over() {
+            return false;
         }
+        self.drive(rt, &mut waiter, most);
+        true
     }
 
     /// Reads frames, whole or in part, that wait for the link. If none do, waits for a while until

@@ -13,7 +13,7 @@ ghost use Rattle.std.specs.Option.{option_map};
 ghost use Rattle.fp_adaptor.specs.declared.setting.Setting.{Setting};
 ghost use Rattle.fp_adaptor.specs.Adaptor.{Led};
 ghost use Rattle.fp_adaptor.specs.Connections.{IsFirst};
-ghost use Rattle.fp_adaptor.specs.Counted.{count_after};
+ghost use Rattle.fp_adaptor.specs.Counted.{count_after, one_more};
 ghost use Rattle.fp_adaptor.specs.declared.counts.Counted.{Counted};
 ghost use Rattle.fp_adaptor.specs.History.{Event, connection_after, ended};
 ghost use Rattle.fp_network.specs.Changes.{closing};
@@ -22,6 +22,7 @@ ghost use Rattle.fp_network.specs.Endings.{IsTied, KeepsTied};
 ghost use Rattle.fp_network.specs.Node.{Came, IsFree, IsFull, LeavesLink, LeavesOthers, connection_at, connection_in, for_link, is_over_at, setting_of};
 ghost use Rattle.fp_network.specs.declared.event.Closing.{Closing};
 ghost use Rattle.fp_network.specs.declared.event.NetworkEvent.TheVariants.{Gone};
+ghost use Rattle.fp_network.specs.Receiving.{SkipsNone};
 ghost use Rattle.fp_network.specs.Tally.{closed_once_more, closings_of, messages_of, refused_unless};
 ghost use Rattle.fp_network.specs.Units.{own_first};
 
@@ -210,6 +211,10 @@ impl Node {
         ensures came { IfOk result (Came at self.old self.new) }
         ensures counted { IfOk result (λ place. (other : Closing) → closings_of self.new.tally other
             ≡ refused_unless place other (closings_of self.old.tally other)) }
+        ensures connections { self.new.tally.connections ≡ one_more self.old.tally.connections }
+        ensures number { IfOk result (λ place. IfSome place (λ place.
+            number_of (connection_in self.new place) ≡ Some self.new.tally.connections)) }
+        ensures skipped { SkipsNone self.old self.new }
         ensures link { LeavesLink self.old self.new }
         ensures adaptor { self.new.adaptor ≡ self.old.adaptor }
         ensures news { NewsGrow self.old self.new }
@@ -238,6 +243,8 @@ impl Node {
         ensures adaptor { self.new.adaptor ≡ self.old.adaptor }
         ensures counted { (other : Closing) → closings_of self.new.tally other
             ≡ closed_once_more why other (closings_of self.old.tally other) }
+        ensures connections { self.new.tally.connections ≡ self.old.tally.connections }
+        ensures skipped { SkipsNone self.old self.new }
         ensures news { Notes (Gone connection why) self.old self.new }
     {
         self.tally.closing(why);
@@ -289,6 +296,8 @@ impl Node {
             → closings_of self.new.tally other
             ≡ closed_once_more why other (closings_of self.old.tally other) }
         ensures uncounted { is_over_at self.old place ≡ true → self.new.tally ≡ self.old.tally }
+        ensures connections { self.new.tally.connections ≡ self.old.tally.connections }
+        ensures skipped { SkipsNone self.old self.new }
         ensures reported { is_over_at self.old place ≡ false → (number : ℕ)
             × (number_of (connection_in self.old place) ≡ Some number)
             × Notes (Gone number why) self.old self.new }

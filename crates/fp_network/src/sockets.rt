@@ -63,8 +63,10 @@ pub(crate) struct Sockets {
     has_changed: bool,
     // No place from this one on has a socket.
     used: usize,
-    // The time of the last look for late connections, in milliseconds.
+    // The time of the last look for connections that aren't active, in milliseconds.
     looked_at: u64,
+    // The place at which the next turn begins to read, below the number of places.
+    first: usize,
 }
 
 /// The error of a call of the link after a fault of its network.
@@ -96,6 +98,7 @@ impl Sockets {
             has_changed: false,
             used: 0,
             looked_at: 0,
+            first: 0,
         }
     }
 

@@ -102,8 +102,10 @@ impl Tally {
 
     /// One more connection was closed for this reason.
     pub(crate) fn closing(&mut self, why: Closing)
-        ensures { (other : Closing) → closings_of self.new other
+        ensures counted { (other : Closing) → closings_of self.new other
             ≡ closed_once_more why other (closings_of self.old other) }
+        ensures connections { self.new.connections ≡ self.old.connections }
+        ensures skipped { self.new.skipped ≡ self.old.skipped }
     {
         let place = why.place();
         self.closings[place] = self.closings[place].saturating_add(1);

@@ -1,5 +1,5 @@
 -- When the drain of a node is over, by the reads of its link that began after the command, the newest one first.
-use Rattle.std.specs.Prelude.{◌≡◌, ℕ, ◌-◌, Bool, true, false, ◌||◌, nat_le, nat_lt, if◌then◌else◌, List, [], ◌∷◌, drop, Result, Ok, Err}
+use Rattle.std.specs.Prelude.{◌≡◌, ℕ, Bool, true, false, nat_lt, if◌then◌else◌, List, [], ◌∷◌, drop, Result, Ok, Err}
 use Rattle.std.specs.List.{list_any}
 use Rattle.std.specs.IoError.{error_kind}
 use Rattle.std.specs.declared.io.Error.{Error}
@@ -7,9 +7,8 @@ use Rattle.std.specs.declared.io.ErrorKind.{ErrorKind}
 use Rattle.std.specs.declared.io.ErrorKind.TheVariants.{WouldBlock}
 use Rattle.fp_serve.specs.declared.run.draining.DrainCourse.{DrainCourse}
 use Rattle.fp_serve.specs.declared.run.draining.DrainStage.{DrainStage}
-use Rattle.fp_serve.specs.declared.run.draining.DrainStage.TheVariants.{Awaited, Taken, Closed, Over}
+use Rattle.fp_serve.specs.declared.run.draining.DrainStage.TheVariants.{Open, Closed, Over}
 use Rattle.fp_serve.specs.declared.run.draining.LinkReading.{LinkReading}
-use Rattle.fp_serve.specs.declared.run.draining.TheConstants.{MILLISECONDS_TO_CLOSE}
 
 -- the next read drives the network: the last one left nothing waiting
 abbrev pub drives_next : List LinkReading → Bool
@@ -21,26 +20,20 @@ abbrev pub driving : List LinkReading → List LinkReading
 driving [] = []
 driving (last ∷ earlier) = if drives_next earlier then last ∷ driving earlier else driving earlier
 
--- one of these ended so long before a time that the common connection is closed by a read which drives the network then
-abbrev pub is_late : ℕ → List LinkReading → Bool
-is_late time readings = list_any (λ reading. nat_le MILLISECONDS_TO_CLOSE (time - reading.ended_at)) readings
+-- the common connection was closed when one of these ended
+abbrev pub has_closed : List LinkReading → Bool
+has_closed readings = list_any (λ reading. reading.is_closed) readings
 
--- one of these began so long after another one
-abbrev pub has_gap : List LinkReading → Bool
-has_gap [] = false
-has_gap (last ∷ earlier) = is_late last.began_at earlier || has_gap earlier
-
--- One read drove the network, and so it took the command; one drove it so long after that the common connection was closed
--- then at the latest; and one more drove it, before which all that the connection brought was read and posted.
+-- One read drove the network, and the common connection was closed when it ended; and one more drove it, before which all
+-- that the connection brought was read and posted.
 abbrev pub is_over : List LinkReading → Bool
-is_over readings = has_gap (drop 1 (driving readings))
+is_over readings = has_closed (drop 1 (driving readings))
 
 -- how far the drain is, by the reads that drove the network
 abbrev pub IsStage : DrainStage → List LinkReading → Type 0
-IsStage Awaited drove = drove ≡ []
-IsStage (Taken at) drove = (has_gap drove ≡ false) × ((time : ℕ) → is_late time drove ≡ nat_le MILLISECONDS_TO_CLOSE (time - at))
-IsStage Closed drove = (has_gap drove ≡ true) × (has_gap (drop 1 drove) ≡ false)
-IsStage Over drove = has_gap (drop 1 drove) ≡ true
+IsStage Open drove = (has_closed drove ≡ false) × (has_closed (drop 1 drove) ≡ false)
+IsStage Closed drove = (has_closed drove ≡ true) × (has_closed (drop 1 drove) ≡ false)
+IsStage Over drove = has_closed (drop 1 drove) ≡ true
 
 -- a course is that of these reads
 pub record IsSeen (course : DrainCourse) (readings : List LinkReading) : Type 0 where

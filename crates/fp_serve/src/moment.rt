@@ -4,8 +4,10 @@ ghost use Rattle.std.specs.Prelude.{◌≡◌, ◌≤◌, ◌-◌, ◌/◌, min}
 ghost use Rattle.std.specs.Duration.{as_nanos};
 ghost use Rattle.fp_serve.specs.Tag.{tag_by};
 
-use crate::run::Links;
+use crate::run::{Events, Links};
+use crate::socket::report_news;
 use fp_digits::Moment;
+use fp_network::NetworkLink;
 use fp_tids::LocalIds;
 use std::rt::Clock;
 use std::sync::Wait;
@@ -54,9 +56,27 @@ pub(crate) fn tag_of(moment: Moment) -> u16
     (second % u64::from(LocalIds::LAST_TAG)) as u16 + 1
 }
 
+/// Drives the network of a node for this time, and reports its events meanwhile.
+fn drive<R: Wait + Clock>(rt: &R, network: &NetworkLink, events: &Events, most: Duration) {
+    let start = Instant::now(rt).ok();
+    for _ in rt.forever() {
+        let since = time_since(rt, start).unwrap_or(most);
+        let left = most.saturating_sub(since);
+        if left.is_zero() || !network.wait(rt, left) {
+            return;
+        }
+        report_news(rt, network, events);
+    }
+}
+
 /// Waits until the second of this moment is over: at most a second, or three, if the clock is set back meanwhile. The
-/// network of a node is driven meanwhile.
-pub(crate) fn await_next_second<R: Wait + Clock>(rt: &R, links: &Links, moment: Moment) {
+/// network of a node is driven meanwhile, and its events are reported.
+pub(crate) fn await_next_second<R: Wait + Clock>(
+    rt: &R,
+    links: &Links,
+    events: &Events,
+    moment: Moment,
+) {
     let second = moment.milliseconds() / MILLISECONDS_OF_A_SECOND;
     for _ in 0..MOST_WAITS {
         let milliseconds = now(rt).milliseconds();
@@ -67,7 +87,7 @@ pub(crate) fn await_next_second<R: Wait + Clock>(rt: &R, links: &Links, moment: 
         let left = Duration::from_millis(left);
         match links {
             Links::Awaited(_) => thread::sleep(rt, left),
-            Links::Standing(link) => link.network.wait(rt, left),
+            Links::Standing(link) => drive(rt, &link.network, events, left),
         }
     }
 }

@@ -11,5 +11,5 @@ mod link_stream;
 mod traced_stream;
 
 pub(crate) use connections::connection;
-pub(crate) use link_stream::LinkStream;
+pub(crate) use link_stream::{LinkStream, report_news};
 pub(crate) use traced_stream::TracedStream;

@@ -1,4 +1,4 @@
-//! What elements hold.
+//! The contents of elements.
 
 use crate::ber::tags::tag_of;
 use crate::ber::trees::push_forest;
@@ -57,7 +57,7 @@ fn children(alloc: Global, text: &str, out: &mut String) -> anyhow::Result<()> {
     push_children_in(out, children_in(&element, tag)?)
 }
 
-/// Writes what a case of this module gives, and says whether it has one of this kind.
+/// Writes the result of a case of this kind. `false` if this module has no such cases.
 pub(crate) fn answer(
     alloc: Global,
     kind: &str,

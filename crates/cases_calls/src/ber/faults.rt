@@ -1,16 +1,16 @@
-//! The faults of many octets, as how many of each there are in a row.
+//! The faults of many inputs: how often each occurs in a row.
 
 use cases::octets_of;
 use fp_ber::{BerFault, read};
 use std::alloc::Global;
 use std::fmt::Write;
 
-/// The first fault of these octets, or `None` where they spell an element.
+/// The first fault of these octets; `None` if they spell an element.
 fn fault_of(alloc: Global, octets: &[u8]) -> Option<BerFault> {
     read(alloc, octets).err()
 }
 
-/// Writes how often this fault came, or an element where there is none.
+/// Writes how often in a row this fault occurred, or, for `None`, an element.
 fn push_count(out: &mut String, count: u32, fault: Option<BerFault>) -> anyhow::Result<()> {
     match fault {
         Some(fault) => write!(out, "{count} {fault:?}")?,
@@ -19,7 +19,7 @@ fn push_count(out: &mut String, count: u32, fault: Option<BerFault>) -> anyhow::
     Ok(())
 }
 
-/// Writes how many of each fault there are in a row.
+/// Writes how often each fault occurs in a row.
 fn push_faults(out: &mut String, faults: &[Option<BerFault>]) -> anyhow::Result<()> {
     let mut last = None;
     let mut count: u32 = 0;
@@ -35,7 +35,7 @@ fn push_faults(out: &mut String, faults: &[Option<BerFault>]) -> anyhow::Result<
     push_count(out, count, last)
 }
 
-/// The faults of all beginnings of these octets.
+/// The faults of all prefixes of these octets.
 fn prefixes(alloc: Global, text: &str, out: &mut String) -> anyhow::Result<()> {
     let octets = octets_of(alloc, text)?;
     let mut faults = Vec::new(alloc);
@@ -45,7 +45,7 @@ fn prefixes(alloc: Global, text: &str, out: &mut String) -> anyhow::Result<()> {
     push_faults(out, faults.as_slice())
 }
 
-/// The faults of these octets with one more after them.
+/// The faults of these octets followed by one more, 00 to FF.
 fn trailing(alloc: Global, text: &str, out: &mut String) -> anyhow::Result<()> {
     let mut octets = octets_of(alloc, text)?;
     let mut faults = Vec::new(alloc);
@@ -57,7 +57,7 @@ fn trailing(alloc: Global, text: &str, out: &mut String) -> anyhow::Result<()> {
     push_faults(out, faults.as_slice())
 }
 
-/// The faults of these octets with more and more after them.
+/// The faults of these octets followed by none to seven more.
 fn following(alloc: Global, text: &str, out: &mut String) -> anyhow::Result<()> {
     let mut octets = octets_of(alloc, text)?;
     let mut faults = Vec::new(alloc);
@@ -69,7 +69,7 @@ fn following(alloc: Global, text: &str, out: &mut String) -> anyhow::Result<()> 
     push_faults(out, faults.as_slice())
 }
 
-/// Writes what a case of this module gives, and says whether it has one of this kind.
+/// Writes the result of a case of this kind. `false` if this module has no such cases.
 pub(crate) fn answer(
     alloc: Global,
     kind: &str,

@@ -23,7 +23,7 @@ fn unsigned(text: &str, out: &mut String) -> anyhow::Result<()> {
     push_octets(out, &[octet_of(text.parse()?)])
 }
 
-/// Writes what a case of this module gives, and says whether it has one of this kind.
+/// Writes the result of a case of this kind. `false` if this module has no such cases.
 pub(crate) fn answer(
     alloc: Global,
     kind: &str,

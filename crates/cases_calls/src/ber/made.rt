@@ -1,4 +1,4 @@
-//! Elements that are made, and canonical spellings.
+//! Building elements, and their canonical spellings.
 
 ghost use Rattle.fp_ber.specs.Canon.{HasLengths};
 ghost use Rattle.fp_ber.specs.Tree.{HasTags};
@@ -82,7 +82,7 @@ fn zeros(alloc: Global, text: &str, out: &mut String) -> anyhow::Result<()> {
     push_zeros(out, spelling.as_slice(), count)
 }
 
-/// Writes what a case of this module gives, and says whether it has one of this kind.
+/// Writes the result of a case of this kind. `false` if this module has no such cases.
 pub(crate) fn answer(
     alloc: Global,
     kind: &str,

@@ -1,4 +1,4 @@
-//! Elements that are read.
+//! Reading elements.
 
 use crate::ber::trees::{push_lent, push_tree};
 use crate::elements::element_of;
@@ -15,7 +15,7 @@ fn push_read(alloc: Global, octets: &[u8], out: &mut String) -> anyhow::Result<(
     }
 }
 
-/// The same, read as nodes.
+/// Writes the element that these octets spell, read as nodes, or their first fault.
 fn push_read_nodes(alloc: Global, octets: &[u8], out: &mut String) -> anyhow::Result<()> {
     let mut places = vec![in alloc; Node::BLANK; octets.len() / 2 + 1]?;
     match read_nodes(octets, places.as_mut_slice()) {
@@ -25,8 +25,8 @@ fn push_read_nodes(alloc: Global, octets: &[u8], out: &mut String) -> anyhow::Re
     }
 }
 
-/// Writes the element that these octets spell, or their first fault. If they are read as something else in nodes, that
-/// follows.
+/// Writes the element that these octets spell, or their first fault. If reading them as nodes gives another result,
+/// writes that too.
 fn push_both(alloc: Global, octets: &[u8], out: &mut String) -> anyhow::Result<()> {
     let mut lent = String::new(alloc);
     push_read_nodes(alloc, octets, &mut lent)?;
@@ -45,7 +45,7 @@ fn element(alloc: Global, text: &str, out: &mut String) -> anyhow::Result<()> {
     push_both(alloc, octets.as_slice(), out)
 }
 
-/// The same of these octets in as many elements of indefinite length.
+/// The element that these octets spell inside COUNT elements of indefinite length, or the first fault.
 fn nested(alloc: Global, text: &str, out: &mut String) -> anyhow::Result<()> {
     let (count, text) = first_word(text);
     let count: u8 = count.parse()?;
@@ -66,7 +66,7 @@ fn copy(alloc: Global, text: &str, out: &mut String) -> anyhow::Result<()> {
     push_tree(out, &copy)
 }
 
-/// Writes what a case of this module gives, and says whether it has one of this kind.
+/// Writes the result of a case of this kind. `false` if this module has no such cases.
 pub(crate) fn answer(
     alloc: Global,
     kind: &str,

@@ -35,7 +35,7 @@ pub(crate) fn push_forest(out: &mut String, elements: &[Element]) -> anyhow::Res
     Ok(())
 }
 
-/// Writes an element that is lent.
+/// Writes a borrowed element.
 #[cycle(lent)]
 pub(crate) fn push_lent(out: &mut String, element: &ElementRef<'_>) -> anyhow::Result<()> {
     let class = class_name(element.class());
@@ -51,7 +51,7 @@ pub(crate) fn push_lent(out: &mut String, element: &ElementRef<'_>) -> anyhow::R
     Ok(())
 }
 
-/// Writes elements that are lent.
+/// Writes borrowed elements.
 #[cycle(lent)]
 fn push_all_lent(out: &mut String, elements: &Elements<'_>) -> anyhow::Result<()> {
     let mut is_first = true;

@@ -1,6 +1,6 @@
-//! Requests as words, those that the cases of the service step give.
+//! Requests as words, as in the results of the cases of the service step.
 //!
-//! | Request | What it is |
+//! | Request | Meaning |
 //! |---|---|
 //! | `continue`, `end` | a Continue, an End |
 //! | `continue aare accepted NAME`, `end aare accepted NAME` | the same with an AARE that accepts the dialogue of this application context name |
@@ -8,10 +8,10 @@
 //! | `abort abrt` | an Abort with an ABRT |
 //! | `abort aare name-not-supported NAME`, `abort aare no-common-version NAME` | an Abort with an AARE that refuses the dialogue |
 //!
-//! After a Continue or an End come up to two components, each after a comma. The second one isn't an Invoke of
+//! A Continue or an End is followed by up to two components, each after a comma. The second one isn't an Invoke of
 //! RequestReportBCSMEvent.
 //!
-//! | Component | What it is |
+//! | Component | Meaning |
 //! |---|---|
 //! | `invoke ID Connect DIGITS`, `invoke ID ReleaseCall CAUSE`, `invoke ID RequestReportBCSMEvent`, `invoke ID Continue`, `invoke ID ActivityTest` | an Invoke |
 //! | `error ID ERROR` | a ReturnError |
@@ -114,7 +114,7 @@ fn components_of(alloc: Global, text: &str) -> anyhow::Result<Components> {
     built(&first, &second)
 }
 
-/// Puts the component of a text in a place.
+/// Reads the component of a text into `place`.
 fn read_component(alloc: Global, text: &str, place: &mut Option<Component>) -> anyhow::Result<()> {
     if place.is_some() {
         bail!("more than two components");

@@ -1,4 +1,4 @@
-//! Lists of entries, their copies, and which of them are the same.
+//! Lists of entries, their copies, and which of them are equal.
 
 use crate::entries::shown::push_entries;
 use crate::kinds::kind_of;
@@ -18,7 +18,7 @@ fn entries_of(alloc: Global, table: &Table, text: &str) -> anyhow::Result<Entrie
     Ok(entries)
 }
 
-/// Adds what a text spells at each of these moments.
+/// Adds the entry of a text, at each of these moments.
 fn push_kind(
     alloc: Global,
     table: &Table,
@@ -30,7 +30,7 @@ fn push_kind(
     push_at(entries, moments, &kind)
 }
 
-/// Adds what came at each of these moments.
+/// Adds an entry of this kind, at each of these moments.
 fn push_at(entries: &mut Entries, moments: &str, kind: &EntryKind) -> anyhow::Result<()> {
     for moment in moments.split(',') {
         entries.push(Entry {
@@ -41,8 +41,8 @@ fn push_at(entries: &mut Entries, moments: &str, kind: &EntryKind) -> anyhow::Re
     Ok(())
 }
 
-/// Writes what a list is before its first entry and with all, and copies of its entries when it came apart and together
-/// again.
+/// Writes a list before its first entry and with all entries, and copies of its entries after it was taken apart and
+/// put together again.
 pub(crate) fn list(
     alloc: Global,
     table: &Table,
@@ -56,7 +56,7 @@ pub(crate) fn list(
     push_list(table, is_empty, &together, copies.as_slice(), out)
 }
 
-/// Writes whether a list was empty before its first entry and is with all, and its copies.
+/// Writes whether a list was empty before its first entry and is empty with all entries, and then its copies.
 fn push_list(
     table: &Table,
     was_empty: bool,
@@ -77,7 +77,7 @@ fn copies_of(alloc: Global, entries: &[Entry]) -> anyhow::Result<Entries> {
     Ok(copies)
 }
 
-/// Writes how many entries there are, how many are the same as their copy, and the copies.
+/// Writes how many entries there are, how many equal their copy, and the copies.
 fn push_copies(
     table: &Table,
     entries: &[Entry],
@@ -93,7 +93,7 @@ fn push_copies(
     push_entries(table, copies, out)
 }
 
-/// Writes a list, no entry, and a copy of the list, one after the other.
+/// Writes a list after an empty list and a copy of itself were appended.
 pub(crate) fn append(
     alloc: Global,
     table: &Table,
@@ -105,7 +105,7 @@ pub(crate) fn append(
     push_entries(table, entries.as_slice(), out)
 }
 
-/// Adds no entry and a copy of a list after it.
+/// Appends an empty list and a copy of a list to it.
 fn append_copy(alloc: Global, entries: &mut Entries) -> anyhow::Result<()> {
     let copies = entries.try_clone(alloc)?;
     entries.append(Entries::new(alloc))?;
@@ -113,7 +113,7 @@ fn append_copy(alloc: Global, entries: &mut Entries) -> anyhow::Result<()> {
     Ok(())
 }
 
-/// Writes what entries are when each is compared with each copy.
+/// Writes the numbers of entries, and of equal pairs as each entry is compared with each copy.
 pub(crate) fn distinct(
     alloc: Global,
     table: &Table,
@@ -125,7 +125,7 @@ pub(crate) fn distinct(
     push_distinct(&entries, copies.as_slice(), out)
 }
 
-/// Writes how many entries there are, and how many copies are the same.
+/// Writes how many entries there are, and how many copies equal them.
 fn push_distinct(entries: &Entries, copies: &[Entry], out: &mut String) -> anyhow::Result<()> {
     push_numbers(entries, out)?;
     push_pairs(entries.as_slice(), copies, out)
@@ -148,7 +148,7 @@ fn push_numbers(entries: &Entries, out: &mut String) -> anyhow::Result<()> {
     Ok(())
 }
 
-/// Writes how many copies are the same as their entry, and as any.
+/// Writes how many copies equal their own entry, and how many pairs of an entry and a copy are equal.
 fn push_pairs(entries: &[Entry], copies: &[Entry], out: &mut String) -> anyhow::Result<()> {
     let own = count_places(entries, copies);
     let mut pairs: usize = 0;
@@ -166,7 +166,7 @@ fn push_pairs(entries: &[Entry], copies: &[Entry], out: &mut String) -> anyhow::
     Ok(())
 }
 
-/// How many entries are the same as this one.
+/// How many entries equal this one.
 fn count_same(entry: &Entry, others: &[Entry]) -> usize {
     let mut count: usize = 0;
     for other in others {
@@ -175,7 +175,7 @@ fn count_same(entry: &Entry, others: &[Entry]) -> usize {
     count
 }
 
-/// How many entries are the same as the one in the same place.
+/// How many entries equal the one in the same place of the other list.
 fn count_places(entries: &[Entry], others: &[Entry]) -> usize {
     let mut count: usize = 0;
     for (entry, other) in entries.iter().zip(others) {

@@ -1,4 +1,4 @@
-//! What a message is prepared to, as text.
+//! Prepared messages as text.
 //!
 //! | Kind | As text |
 //! |---|---|
@@ -27,7 +27,7 @@ use fp_records::{Record, Table};
 /// The last octets of the called numbers that have a record, 800123456 to 800123459.
 const LAST_OCTETS: [u8; 4] = [0x06, 0x07, 0x08, 0x09];
 
-/// Writes how many entries come from components, which frame came, and what it is prepared to.
+/// Writes how many entries are from components, the frame, and the prepared message.
 pub(crate) fn push_prepared(
     table: &Table,
     prepared: &Prepared,
@@ -42,7 +42,7 @@ pub(crate) fn push_prepared(
     }
 }
 
-/// Writes what a message brings.
+/// Writes the entries of a message.
 fn push_incoming(table: &Table, incoming: &Incoming, out: &mut String) -> anyhow::Result<()> {
     write!(out, ", elements {}: ", incoming.elements)?;
     push_entries(table, incoming.entries.as_slice(), out)
@@ -54,13 +54,13 @@ fn push_refused(fault: Fault, out: &mut String) -> anyhow::Result<()> {
     Ok(())
 }
 
-/// Writes the octets of a frame that is lost.
+/// Writes the octets of a lost frame.
 fn push_lost(arrival: &Arrival, out: &mut String) -> anyhow::Result<()> {
     out.push_str(", lost: ")?;
     push_octets(out, arrival.frame.octets())
 }
 
-/// Writes the identifiers of a frame that came, how many octets it has, and its moment.
+/// Writes the identifiers of a received frame, how many octets it has, and its moment.
 fn push_arrival(arrival: &Arrival, out: &mut String) -> anyhow::Result<()> {
     write!(out, "{:?} from ", arrival.ids.kind)?;
     push_tid(out, arrival.ids.orig)?;
@@ -97,13 +97,13 @@ pub(crate) fn push_entries(
     Ok(())
 }
 
-/// Writes what comes, and when.
+/// Writes an entry: its kind and its moment.
 fn push_entry(table: &Table, entry: &Entry, out: &mut String) -> anyhow::Result<()> {
     push_kind(table, &entry.kind, out)?;
     push_moment(entry.moment, out)
 }
 
-/// Writes what comes.
+/// Writes the kind of an entry.
 fn push_kind(table: &Table, kind: &EntryKind, out: &mut String) -> anyhow::Result<()> {
     match kind {
         EntryKind::Opened(opening) => push_opening(opening, out),
@@ -128,7 +128,7 @@ fn push_kind(table: &Table, kind: &EntryKind, out: &mut String) -> anyhow::Resul
     }
 }
 
-/// Writes what comes, if it is no Begin and no Invoke.
+/// Writes the kind of an entry that isn't of a Begin or an Invoke.
 fn push_answer(kind: &EntryKind, out: &mut String) -> anyhow::Result<()> {
     match kind {
         EntryKind::Result { identifier, last } => push_result(*identifier, *last, out),
@@ -145,7 +145,7 @@ fn push_answer(kind: &EntryKind, out: &mut String) -> anyhow::Result<()> {
     }
 }
 
-/// Writes what a Begin opens.
+/// Writes the opening of a Begin.
 fn push_opening(opening: &Opening, out: &mut String) -> anyhow::Result<()> {
     match opening {
         Opening::None => push_text("opened none", out),
@@ -155,7 +155,7 @@ fn push_opening(opening: &Opening, out: &mut String) -> anyhow::Result<()> {
     }
 }
 
-/// Writes an application context name after a text.
+/// Writes a text and an application context name.
 pub(crate) fn push_name(text: &str, name: &Name, out: &mut String) -> anyhow::Result<()> {
     out.push_str(text)?;
     push_octets(out, name.as_slice())
@@ -172,7 +172,7 @@ fn push_invoke(
     push_identifier(" linked ", linked, out)
 }
 
-/// Writes an identifier after a text, if there is one.
+/// Writes a text and an identifier, or `none` for an absent one.
 fn push_identifier(text: &str, identifier: Option<i8>, out: &mut String) -> anyhow::Result<()> {
     match identifier {
         Some(identifier) => write!(out, "{text}{identifier}")?,
@@ -252,7 +252,7 @@ fn push_faulty(
     Ok(())
 }
 
-/// Writes what a table has of a called number.
+/// Writes the table's answer to a called number.
 fn push_found(table: &Table, found: &Found, out: &mut String) -> anyhow::Result<()> {
     match found {
         Found::Missing => push_text(" missing", out),

@@ -30,7 +30,7 @@ fn push_coded(
     push_optional(out, parameter)
 }
 
-/// Writes what a ReturnResult returns.
+/// Writes the result in a ReturnResult: its code and parameter.
 fn push_result(out: &mut String, returned: Option<&Coded<'_>>) -> anyhow::Result<()> {
     match returned {
         Some(coded) => push_coded(out, &coded.code, coded.parameter),

@@ -14,7 +14,7 @@ fn class_bits(class: Class) -> u8 {
     }
 }
 
-/// Writes a tag: its octet, or its class and its number where one octet does not hold them.
+/// Writes a tag: its octet, or its class and number if they don't fit into one octet.
 fn push_tag(out: &mut String, class: Class, form: u8, number: u16) -> anyhow::Result<()> {
     if number > 30 {
         return Ok(write!(out, "{class:?}-{number}")?);

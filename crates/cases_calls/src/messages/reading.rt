@@ -1,4 +1,4 @@
-//! Messages as they are read.
+//! Reading messages.
 
 use crate::elements::element_of;
 use crate::messages::components::{push_component, push_components};
@@ -120,7 +120,7 @@ fn push_invoke(out: &mut String, component: &Component<'_>) -> anyhow::Result<()
     }
 }
 
-/// Writes of each component of a Begin its identifier if it is an Invoke.
+/// Writes the identifiers of the Invokes among the components of a Begin.
 fn push_invokes(out: &mut String, message: &Message<'_>) -> anyhow::Result<()> {
     let Message::Begin(begin) = message else {
         anyhow::bail!("no Begin");
@@ -134,7 +134,7 @@ fn push_invokes(out: &mut String, message: &Message<'_>) -> anyhow::Result<()> {
     Ok(())
 }
 
-/// Of each component of the Begin of these octets, its identifier if it is an Invoke.
+/// The identifiers of the Invokes among the components of the Begin of these octets.
 pub(crate) fn invokes(alloc: Global, text: &str, out: &mut String) -> anyhow::Result<()> {
     let element = element_of(alloc, text)?;
     push_invokes(out, &message_of(alloc, &element)?)

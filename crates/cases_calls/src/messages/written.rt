@@ -1,6 +1,6 @@
-//! Messages as they are written.
+//! Writing messages.
 //!
-//! | Message | What is written |
+//! | Message | Octets of |
 //! |---|---|
 //! | `unidirectional` | a Unidirectional |
 //! | `begin TID DIALOGUE COMPONENT..` | a Begin with up to three components |
@@ -10,11 +10,11 @@
 //! | `abort TID cause NUMBER` | an Abort of the provider |
 //! | `abort TID dialogue HEX` | an Abort of the user, with this dialogue portion |
 //!
-//! `DIALOGUE` is the element of a dialogue portion in hexadecimal, or `none`. A component is one word, its parts apart
-//! by colons: a `CODE` is a number, or `oid` and the octets of an object identifier; an `ELEMENT` is in hexadecimal,
-//! or `none`.
+//! `DIALOGUE` is the element of a dialogue portion in hexadecimal, or `none`. A component is one word, with colons
+//! between its parts: a `CODE` is a number, or `oid` and the octets of an object identifier; an `ELEMENT` is in
+//! hexadecimal, or `none`.
 //!
-//! | Component | What is written |
+//! | Component | Octets of |
 //! |---|---|
 //! | `invoke:ID:CODE:ELEMENT` | an Invoke |
 //! | `linked:ID:LINKED:CODE:ELEMENT` | an Invoke with a linked identifier |

@@ -26,7 +26,7 @@ fn push_part(file: &mut Vec<u8>, part: &str) -> anyhow::Result<()> {
     }
 }
 
-/// Adds a text so many times.
+/// Adds a text this number of times.
 fn push_often(file: &mut Vec<u8>, count: u32, text: &str) -> anyhow::Result<()> {
     for _ in 0..count {
         push_text(file, text)?;
@@ -34,7 +34,7 @@ fn push_often(file: &mut Vec<u8>, count: u32, text: &str) -> anyhow::Result<()> 
     Ok(())
 }
 
-/// Adds a text so many times for each of these numbers, each time after the number.
+/// Adds a text `count` times for each of these numbers, each time after the number.
 fn push_numbered(file: &mut Vec<u8>, numbers: &str, count: u32, text: &str) -> anyhow::Result<()> {
     let Some((first, last)) = numbers.split_once("..") else {
         bail!("no range");
@@ -62,7 +62,7 @@ fn push_text(file: &mut Vec<u8>, text: &str) -> anyhow::Result<()> {
     Ok(())
 }
 
-/// Adds what a text after a backslash stands for.
+/// Adds the octet of an escape, whose text follows a backslash, and the text after it.
 fn push_escaped(file: &mut Vec<u8>, text: &[u8]) -> anyhow::Result<()> {
     match text {
         [b'n', rest @ ..] => push_octet(file, b'\n', rest),
@@ -75,7 +75,7 @@ fn push_escaped(file: &mut Vec<u8>, text: &[u8]) -> anyhow::Result<()> {
     }
 }
 
-/// Adds an octet, and what follows it.
+/// Adds an octet and the text after it.
 fn push_octet(file: &mut Vec<u8>, octet: u8, rest: &[u8]) -> anyhow::Result<()> {
     file.push(octet)?;
     file.extend_from_slice(rest)?;

@@ -51,7 +51,7 @@ fn push_minute(out: &mut String, text: &str, minute: u16) -> anyhow::Result<()> 
     Ok(())
 }
 
-/// Writes what a rule does with a call.
+/// Writes the action of a rule.
 fn push_action(out: &mut String, action: &Action) -> anyhow::Result<()> {
     match action {
         Action::Route(destinations) => push_route(out, destinations),
@@ -60,13 +60,13 @@ fn push_action(out: &mut String, action: &Action) -> anyhow::Result<()> {
     }
 }
 
-/// Writes where a rule routes a call.
+/// Writes the destinations to which a rule routes a call.
 fn push_route(out: &mut String, destinations: &Destinations) -> anyhow::Result<()> {
     out.push_str("route ")?;
     push_destinations(out, destinations)
 }
 
-/// Writes destinations, in the order in which they are tried.
+/// Writes destinations, in the order in which a call tries them.
 pub(crate) fn push_destinations(
     out: &mut String,
     destinations: &Destinations,

@@ -1,20 +1,19 @@
 //! Cores and requests as text.
 //!
-//! A core is its state, the identifiers of the invocations that are active, the identifier of the next one, and the
-//! earliest moment at which the clock does something, in milliseconds after noon:
-//! `waiting 32, active 1 2, next 3, due 10000`. After `waiting` come the destinations that are left; with no
-//! invocation it is `active none`.
+//! A core is written as its state, the identifiers of the active invocations, the next identifier, and the earliest
+//! moment at which the clock has an effect, in milliseconds after noon: `waiting 32, active 1 2, next 3, due 10000`.
+//! `waiting` is followed by the remaining destinations. Without an active invocation it is `active none`.
 //!
-//! | Request | What it is |
+//! | Request | Meaning |
 //! |---|---|
 //! | `none` | nothing |
-//! | `continue, COMPONENT, COMPONENT` | a Continue with these components; an `end` is told alike |
+//! | `continue, COMPONENT, COMPONENT` | a Continue with these components; `end` is written alike |
 //! | `continue aare accepted NAME, ..` | the same with an AARE that accepts the dialogue of this application context name |
 //! | `abort` | an Abort without dialogue portion |
 //! | `abort abrt` | an Abort with an ABRT |
 //! | `abort aare name-not-supported NAME`, `abort aare no-common-version NAME` | an Abort with an AARE that refuses the dialogue |
 //!
-//! | Component | What it is |
+//! | Component | Meaning |
 //! |---|---|
 //! | `invoke ID Connect DIGITS`, `invoke ID ReleaseCall CAUSE`, `invoke ID RequestReportBCSMEvent`, `invoke ID Continue`, `invoke ID ActivityTest` | an Invoke |
 //! | `error ID ERROR` | a ReturnError |
@@ -62,7 +61,7 @@ fn push_invocations(invocations: &Invocations, out: &mut String) -> anyhow::Resu
     Ok(())
 }
 
-/// Writes the destinations that are left.
+/// Writes `waiting` and the remaining destinations, if there are any.
 fn push_waiting(left: &Option<Destinations>, out: &mut String) -> anyhow::Result<()> {
     out.push_str("waiting")?;
     if let Some(left) = left {
@@ -72,7 +71,7 @@ fn push_waiting(left: &Option<Destinations>, out: &mut String) -> anyhow::Result
     Ok(())
 }
 
-/// Writes the core after an entry and what is asked for.
+/// Writes the core after an entry, and the request.
 pub(crate) fn push_served(
     core: &Core,
     request: &Option<Request>,

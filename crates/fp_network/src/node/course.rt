@@ -1,17 +1,17 @@
 //! How the connections of a node go on to their end: the node drains, time goes by, or the link is
 //! down.
 
-ghost use Rattle.std.specs.Prelude.{◌≡◌, List, false, true, None, Some, ◌<◌, length};
+ghost use Rattle.std.specs.Prelude.{◌≡◌, ℕ, List, false, true, None, Some, ◌<◌, length};
 ghost use Rattle.std.specs.Bool.{Decides};
 ghost use Rattle.std.specs.Option.{option_map};
 ghost use Rattle.fp_adaptor.specs.declared.setting.Setting.{Setting};
 ghost use Rattle.fp_adaptor.specs.Adaptor.{Led};
 ghost use Rattle.fp_adaptor.specs.History.{Event};
 ghost use Rattle.fp_network.specs.declared.event.Closing.TheVariants.{LinkDown};
-ghost use Rattle.fp_network.specs.Changes.{closing, draining, shutting, ticking, writing};
+ghost use Rattle.fp_network.specs.Changes.{closing, counting_read, draining, reading_late, shutting, ticking, writing};
 ghost use Rattle.fp_network.specs.Counting.{Counts};
 ghost use Rattle.fp_network.specs.Endings.{EndsClosed, KeepsTied};
-ghost use Rattle.fp_network.specs.Node.{ChangesEach, IsToShut, LeavesLink, LeavesOthers, connection_in, for_link, is_draining_at, overdue_of, waiting_at};
+ghost use Rattle.fp_network.specs.Node.{ChangesEach, IsToShut, LeavesLink, LeavesOthers, connection_in, for_link, has_common_of, is_draining_at, is_late_of, is_read_out_of, overdue_of, waiting_at};
 
 use crate::{Closing, Node};
 use fp_adaptor::Setting;
@@ -54,7 +54,7 @@ impl Node {
 
     /// The node is to drain, from this time on, if it doesn't already. No connection is accepted
     /// for the common unit, and the one that is there is to be shut for writing. Its messages are
-    /// still taken for two seconds at most.
+    /// still taken for two seconds, and then until its socket is read out ([`Node::read_late`]).
     pub fn drain(&mut self, at: u64)
         ensures drains { self.new.is_draining ≡ true }
         ensures each { ChangesEach (draining (length self.old.names.items) at) self.old self.new }
@@ -141,8 +141,7 @@ impl Node {
         self.close(place, why);
     }
 
-    /// Time goes by: connections that aren't active after five seconds are to be closed, and the
-    /// connection of the common unit two seconds after its node began to drain.
+    /// Time goes by: connections that aren't active after five seconds are to be closed.
     pub fn tick(&mut self, at: u64)
         ensures each { ChangesEach (ticking at) self.old self.new }
         ensures ended { EndsClosed self.old self.new }
@@ -153,6 +152,92 @@ impl Node {
         for place in 0..self.places.len() {
             self.tick_place(place, at);
         }
+    }
+
+    /// Whether the node drains for two seconds at this time and the connection in a place has the
+    /// common unit and isn't to be closed. Then you must read its socket, and report that by
+    /// [`Node::read_late`].
+    pub fn is_late(&self, place: usize, at: u64) -> bool
+        ensures { result ≡ is_late_of at (connection_in self.now place) }
+    {
+        match self.at(place) {
+            Some(connection) => connection.is_late(at),
+            None => false,
+        }
+    }
+
+    /// Whether the connection in a place is closed by a read of its socket that ends at this time.
+    fn is_read_out(&self, place: usize, at: u64, found_no_more: bool) -> bool
+        ensures { result ≡ is_read_out_of at found_no_more (connection_in self.now place) }
+    {
+        match self.at(place) {
+            Some(connection) => connection.is_read_out(at, found_no_more),
+            None => false,
+        }
+    }
+
+    /// Counts a read of the socket of the connection in a place that ends at this time, if the
+    /// connection is late.
+    fn count_read(&mut self, place: usize, at: u64)
+        ensures here { connection_in self.new place
+            ≡ option_map (counting_read at) (connection_in self.old place) }
+        ensures others { LeavesOthers place self.old self.new }
+        ensures link { LeavesLink self.old self.new }
+        ensures adaptor { self.new.adaptor ≡ self.old.adaptor }
+        ensures tally { self.new.tally ≡ self.old.tally }
+        ensures news { self.new.news ≡ self.old.news }
+    {
+        let Some(slot) = self.places.get_mut(place) else {
+            return;
+        };
+        let Some(connection) = slot.as_mut() else {
+            return;
+        };
+        connection.count_read(at);
+    }
+
+    /// The socket of the connection in a place was read at this time, and the octets were handed to
+    /// [`Node::received`]. If the connection is late and the read found no more than these, or was
+    /// the last of 2,048 reads, the connection is to be closed.
+    pub fn read_late(&mut self, place: usize, at: u64, found_no_more: bool)
+        ensures here { connection_in self.new place
+            ≡ option_map (reading_late at found_no_more) (connection_in self.old place) }
+        ensures others { LeavesOthers place self.old self.new }
+        ensures ended { EndsClosed self.old self.new }
+        ensures link { LeavesLink self.old self.new }
+        ensures counted { Counts self.old self.new }
+        ensures tied { KeepsTied self.old self.new }
+    {
+        if self.is_read_out(place, at, found_no_more) {
+            self.close(place, Closing::Draining);
+            return;
+        }
+        self.count_read(place, at);
+    }
+
+    /// Whether the connection in a place has the common unit and isn't to be closed.
+    fn has_common_at(&self, place: usize) -> bool
+        ensures { result ≡ has_common_of (length self.now.names.items) (connection_in self.now place) }
+    {
+        let units = self.names.len();
+        match self.at(place) {
+            Some(connection) => !connection.is_over() && connection.is_of_common(units),
+            None => false,
+        }
+    }
+
+    /// Whether no connection has the common unit, but for those that are to be closed. Once the node
+    /// drains, no other one gets it.
+    pub fn has_no_common(&self) -> bool
+        ensures { Decides result ((place : ℕ)
+            → has_common_of (length self.now.names.items) (connection_in self.now place) ≡ false) }
+    {
+        for place in 0..self.places.len() {
+            if self.has_common_at(place) {
+                return false;
+            }
+        }
+        true
     }
 
     /// All connections are to be closed, since the link is down.

@@ -10,7 +10,7 @@ ghost use Rattle.fp_network.specs.Frames.{frames_of, framed_if};
 ghost use Rattle.fp_network.specs.Endings.{Activates, KeepsTied};
 ghost use Rattle.fp_network.specs.Changes.{IsLonger};
 ghost use Rattle.fp_network.specs.Counting.{Counts, NewsGrow};
-ghost use Rattle.fp_network.specs.Receiving.{FaultIn, Hearing, NextIn, NextOrEnd, Results, Steps, answering, feeding, reader_of};
+ghost use Rattle.fp_network.specs.Receiving.{FaultIn, Hearing, NextIn, NextOrEnd, Results, SkipsNone, Steps, answering, feeding, reader_of};
 ghost use Rattle.fp_network.specs.Stepping.{ArrivesIn};
 ghost use Rattle.fp_network.specs.Node.{Grows, Keeps, LeavesLink, LeavesOthers, WaitsOn, connection_in, for_link, frames_for, waiting_at};
 
@@ -74,6 +74,7 @@ impl Node {
         ensures came { (setting : Setting) (history : List Event)
             → Led self.old.adaptor setting history
             → Activates place unit self.old setting history self.new }
+        ensures skipped { SkipsNone self.old self.new }
         ensures rest { WaitsOn self.old self.new }
         ensures reads { reader_of (connection_in self.new place)
             ≡ reader_of (connection_in self.old place) }
@@ -92,6 +93,7 @@ impl Node {
         ensures came { (setting : Setting) (history : List Event)
             → Led self.old.adaptor setting history
             → Activates place unit self.old setting history self.new }
+        ensures skipped { SkipsNone self.old self.new }
         ensures rest { WaitsOn self.old self.new }
         ensures reads { reader_of (connection_in self.new place)
             ≡ reader_of (connection_in self.old place) }
@@ -111,6 +113,7 @@ impl Node {
             × Led self.new.adaptor setting (more ++ history)
             × (connection_in self.new place ≡ answering outcome (connection_in self.old place))) }
         ensures others { LeavesOthers place self.old self.new }
+        ensures tally { self.new.tally ≡ self.old.tally }
         ensures reads { OnOk result (reader_of (connection_in self.new place)
             ≡ reader_of (connection_in self.old place)) }
         ensures grows { OnOk result (Grows (for_link self.old) (for_link self.new)) }

@@ -1,6 +1,7 @@
 //! A turn of a node with its sockets: connections are accepted, read and written.
 
 use crate::keep_alive::watch_transfer_point;
+use crate::rotation::place_in_turn;
 use crate::sockets::{End, LISTENER, Sockets};
 use crate::source::{Source, is_again};
 use crate::{Closing, NetworkFault, Node};
@@ -41,13 +42,14 @@ impl Sockets {
         } else {
             self.is_refused = false;
         }
-        for place in 0..self.used {
-            if self.is_to_read(place) {
-                self.read(place, room)?;
-            }
-        }
-        if self.drain.is_set() {
+        let drains = self.drain.is_set();
+        if drains {
             self.node.drain(at);
+            self.read_late(room, at)?;
+        }
+        self.read_all(room, at)?;
+        if drains && self.node.has_no_common() {
+            self.drain.close();
         }
         // Within a millisecond no time goes by.
         if at > self.looked_at {
@@ -58,6 +60,38 @@ impl Sockets {
         self.shut_if_quiet();
         self.clear_places();
         self.look_whether_over(at);
+        Ok(())
+    }
+
+    /// Reads the connections that are ready once each, from the one after the last that was read,
+    /// as long as the link has room.
+    fn read_all(&mut self, room: &mut [u8], at: u64) -> Result<(), AllocError> {
+        let first = self.first.min(Node::PLACES - 1);
+        for step in 0..Node::PLACES {
+            let place = place_in_turn(first, step);
+            if self.is_to_read(place) {
+                self.read_once(place, room, at)?;
+                self.first = place_in_turn(place, 1);
+            }
+        }
+        Ok(())
+    }
+
+    /// Reads each late connection once, as long as the link has room: before the others, which may
+    /// fill it in each turn.
+    fn read_late(&mut self, room: &mut [u8], at: u64) -> Result<(), AllocError> {
+        for place in 0..self.used {
+            if self.node.is_late(place, at) && self.reads() {
+                self.read_once(place, room, at)?;
+            }
+        }
+        Ok(())
+    }
+
+    /// Reads the connection in a place once. If it is late, this read is counted, and may close it.
+    fn read_once(&mut self, place: usize, room: &mut [u8], at: u64) -> Result<(), AllocError> {
+        let found_no_more = self.read(place, room)?;
+        self.node.read_late(place, at, found_no_more);
         Ok(())
     }
 
@@ -128,18 +162,21 @@ impl Sockets {
         Ok(())
     }
 
-    /// Reads the connection in a place once.
-    fn read(&mut self, place: usize, room: &mut [u8]) -> Result<(), AllocError> {
+    /// Reads the connection in a place once. Returns whether its socket had no more octets.
+    fn read(&mut self, place: usize, room: &mut [u8]) -> Result<bool, AllocError> {
         let Some(slot) = self.streams.get_mut(place) else {
-            return Ok(());
+            return Ok(true);
         };
         let Some(socket) = slot.as_mut() else {
-            return Ok(());
+            return Ok(true);
         };
         let most = room.len();
         let mut stream = &socket.stream;
         match stream.read(room) {
-            Ok(0) => self.node.close(place, Closing::PeerClosed),
+            Ok(0) => {
+                self.node.close(place, Closing::PeerClosed);
+                Ok(true)
+            }
             Ok(count) => {
                 if count < most {
                     socket.has_no_more();
@@ -149,10 +186,16 @@ impl Sockets {
                     let octets = room.get(..count).unwrap_or_default();
                     self.node.received(place, octets)?;
                 }
+                Ok(count < most)
             }
-            Err(error) if is_again(&error) => socket.awaits_input(&error),
-            Err(_) => self.node.close(place, Closing::Failed),
+            Err(error) if is_again(&error) => {
+                socket.awaits_input(&error);
+                Ok(!socket.has_input)
+            }
+            Err(_) => {
+                self.node.close(place, Closing::Failed);
+                Ok(true)
+            }
         }
-        Ok(())
     }
 }

@@ -31,10 +31,10 @@ const READS_OF_A_SAMPLE: u8 = 16;
 const OUT_OF_MEMORY: LinkEvent = LinkEvent::LoopFault { why: Why::Memory };
 
 /// The receiving side of a link. Posts all frames of a read to the book, up to 64 per lock hold, then helps to serve
-/// and send. A frame that is held back waits here with those after it, and no other is read meanwhile, so that TCP
-/// holds the peer back. TCP doesn't do that if a network carries the link: then a frame waits for a fifth of a second
-/// and is posted. Each frame is prepared just before it is posted, so that its moment is the moment of the post;
-/// without memory for that it is posted as lost.
+/// and send. A frame that is held back waits here with those after it, and none is read meanwhile, so that TCP holds
+/// the peer back. If a network carries the link, TCP doesn't do that: then a frame waits for at most a fifth of a
+/// second before it is posted. Each frame is prepared just before it is posted, so that its moment is the moment of the
+/// post; if memory runs out for that, it is posted as lost.
 #[derive(Drop)]
 struct Arrivals<'x, R, G: Gate, A: Ledger, B: Ledger, C: Ledger> {
     link: Link<'x, R, A, B, C>,

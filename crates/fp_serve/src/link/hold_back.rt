@@ -10,8 +10,8 @@ use std::time::{Duration, Instant};
 /// How long a message is held back, in milliseconds.
 const MILLISECONDS: u64 = 200;
 
-/// How long the messages of a read are held back. Once one waited in vain, those after it have waited, too, and aren't
-/// held back until one finds room.
+/// How long the messages of a read are held back. Once a message has waited in vain, the ones after it have waited as
+/// long: they aren't held back either, until one finds room.
 #[derive(Clone, Copy)]
 pub(crate) struct HoldBack {
     // When the messages were read. `None` if the clock gives no time; then no message waits.

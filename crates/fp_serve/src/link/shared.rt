@@ -39,7 +39,7 @@ pub(crate) struct Link<'x, R, A: Ledger, B: Ledger, C: Ledger> {
     pub(crate) plan: &'x Plan,
     pub(crate) hub: &'x Hub<A, B, C>,
     pub(crate) stream: &'x LinkStream,
-    // The state of its end.
+    // The state of the link's end.
     pub(crate) end: &'x Mutex<LinkEnd>,
     // The log lines that wait for the thread that writes the log.
     pub(crate) lines: &'x LinkLog,
@@ -67,7 +67,7 @@ impl<'x, R: System, A: Ledger, B: Ledger, C: Ledger> Link<'x, R, A, B, C> {
     }
 
     /// Takes the link down, for this reason, and reports it. The book goes down, so that the sending thread and the
-    /// clock end; the socket is shut down as `how` says, so that the receiving thread ends, and a write of the sending
+    /// clock end; the socket is shut down as `how` says, which ends the receiving thread and any write of the sending
     /// thread; and the hub is closed, so that the workers end.
     fn go_down(&self, why: Why, how: Shutdown) {
         let rt = self.run.rt;

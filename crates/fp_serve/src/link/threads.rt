@@ -100,8 +100,8 @@ impl<
         self.keep(handle);
     }
 
-    /// Starts the workers, the sending thread, the clock, which has no seat, and, if these were started, the receiving
-    /// thread, which passes this gate too. Returns the clock.
+    /// Starts the workers, the sending thread and the clock, which has no seat; and, if all of these were started, the
+    /// receiving thread. The workers and the receiving thread pass this gate. Returns the clock.
     fn start_all<G: Gate + Sync>(&mut self, gate: &'s G) -> Option<JoinHandle<()>> {
         let link = self.link;
         for _ in 0..link.run.settings.workers {

@@ -5,8 +5,8 @@ use crate::system::System;
 use fp_hub::{Gate, Hints, Seat};
 use std::sync::ledger::Ledger;
 
-/// A gate that passes another one, and then moves lines of the link if many wait, since a thread that serves adds most
-/// of them.
+/// A gate that passes `gate`, and then moves log lines of the link if many wait: a thread that serves adds most of
+/// them.
 #[derive(Drop)]
 pub(crate) struct LineGate<'x, R, G: Gate, A: Ledger, B: Ledger, C: Ledger> {
     pub(crate) link: Link<'x, R, A, B, C>,

@@ -25,10 +25,10 @@ const MOST_ROUNDS: usize = 64;
 /// The octets of text after which a turn ends, so that no thread waits long for the next one.
 const OCTETS_OF_A_TURN: usize = 1 << 20;
 
-/// The time between two tries to make the last text of a link without memory for it, in milliseconds.
+/// The time between two tries to make the last text of a link after memory ran out for it, in milliseconds.
 const MILLISECONDS_WITHOUT_MEMORY: u64 = 10;
 
-/// The most tries: for a minute.
+/// The most such tries: one minute's.
 const MOST_TRIES: u32 = 6_000;
 
 /// The octets of text after which a turn of the receiving thread ends.
@@ -37,7 +37,7 @@ const OCTETS_OF_AN_OWN_TURN: usize = 1 << 16;
 /// The octets of text that make the receiving thread wake the writing one.
 const OCTETS_OF_A_WRITE: usize = 1 << 16;
 
-/// The rest when a turn of making text ends.
+/// The lines that are left when a turn of making text ends.
 #[derive(Clone, Copy, PartialEq, Eq)]
 pub(crate) enum Left {
     /// No line is left.
@@ -128,13 +128,13 @@ impl Moved {
 /// The lines of a link that wait for the thread that writes the log, in the order of its steps.
 ///
 /// The receiving thread of the link makes the text of its lines once it has sent. The clock makes the text of lines
-/// that are left for a second, or are many. So the writing thread, the only one of the run, only has to write; it takes
-/// all text at once. Lines whose text is made leave the book by an exchange of two lists. If the book is filling, any
-/// thread that serves calls moves lines to those that wait; their text is made first then. Of these threads only the
-/// receiving one makes text. No lock is held while the device of the log is written, and the lock for moving lines
-/// isn't held while text is made; the lock of the link is taken under both. If the device takes nothing for long, or
-/// memory runs out, lines stay here, and then in the book of the link, which counts those that find no place there in a
-/// gap. Each gap is reported as an event.
+/// that have waited for a second, or of many at once. So the writing thread, the only one of the run, only has to
+/// write; it takes all text at once. Lines whose text is made leave the book by an exchange of two lists. If the book
+/// is filling, any thread that serves calls moves lines to those that wait; their text is made first then. Of these
+/// threads only the receiving one makes text. No lock is held while the device of the log is written, and the lock for
+/// moving lines isn't held while text is made; the lock of the link is taken under both. If the device takes nothing
+/// for long, or memory runs out, lines stay here, and then in the book of the link. The book counts lines that find no
+/// place in a gap. Each gap is reported as an event.
 #[derive(Drop)]
 pub(crate) struct LinkLog {
     // The text; this lock is taken before the lock of the waiting lines.
@@ -337,10 +337,10 @@ impl<R: System, A: Ledger, B: Ledger, C: Ledger> Link<'_, R, A, B, C> {
     }
 
     /// Moves some lines out of the book if five eighths of their places there are taken, unless another thread moves
-    /// some: it waits for that thread only if seven eighths are taken. So lines find no place in the book only if there
-    /// is no room in their list either: between two such calls of each thread fewer lines are added than the last
-    /// eighth of the book has, 1,024. They are two for each of the 32 turns that a thread gives back and takes, for at
-    /// most nine threads, and one for each of 64 messages. If memory runs out, the lines stay where they are.
+    /// some: it waits for that thread only if seven eighths are taken. So the book runs out of places for lines only if
+    /// their list has no room either: between two such calls of each thread, fewer than 1,024 lines are added, the last
+    /// eighth of the book's places. These are at most 64 lines from each of nine threads, which give back and take up
+    /// to 32 turns, and one for each of 64 messages. If memory runs out, the lines stay where they are.
     pub(crate) fn move_lines_if_many(&self) {
         if !self.hub.is_log_filling() {
             return;

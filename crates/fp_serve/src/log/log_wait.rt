@@ -13,24 +13,24 @@ use std::time::{Duration, Instant};
 /// The time between two looks whether there are places, in milliseconds.
 const LOOK_MILLISECONDS: u64 = 1;
 
-/// The octets that the device must take to count as getting on: the most that are written at once.
+/// The octets that the device must take to count as making progress: the most that are written at once.
 const OCTETS_OF_PROGRESS: u64 = 16_384;
 
-/// The part of a read's time that the thread waits for a device that doesn't get on.
+/// The thread waits this part of a read's time, a quarter, for a device that makes no progress.
 const IDLE_PART: u32 = 4;
 
 /// How a receiving thread waits for places for log lines: before it posts more messages it makes text itself, or, if
 /// there is no room for that, waits for the writing thread. It waits for a bounded time in each read, and only as long
-/// as the device of the log gets on. Once the device took too little for a quarter of that time, the thread doesn't
-/// wait for it until it took more.
+/// as the device of the log makes progress. If the device takes fewer than 16,384 octets in a quarter of that time, the
+/// thread doesn't wait for it again until it has taken that many.
 ///
-/// For example, a device that takes an octet a second is waited for once in hours, and one that hangs once; a disk that
-/// pauses for a tenth of a second leaves no gap.
+/// For example, for a device that takes an octet a second the thread waits once in four hours, and for one that hangs
+/// only once. A disk that pauses for a tenth of a second leaves no gap.
 #[derive(Drop)]
 pub(crate) struct LogWait {
     // How much longer the thread may wait in this read.
     left: Duration,
-    // How many octets the device had taken when it didn't get on.
+    // How many octets the device had taken when it last made no progress; `None` if it has made progress since.
     stalled_at: Option<u64>,
 }
 
@@ -48,7 +48,7 @@ impl LogWait {
         self.left = log.patience;
     }
 
-    /// Whether the device may get on: it took enough since it last didn't.
+    /// Whether to wait for the device: it has made progress since it last made none.
     fn may_get_on(&mut self, log: &Log) -> bool {
         match self.stalled_at {
             Some(at) if log.written().saturating_sub(at) < OCTETS_OF_PROGRESS => false,
@@ -88,8 +88,8 @@ impl DeviceProgress {
 }
 
 impl<R: System, A: Ledger, B: Ledger, C: Ledger> Link<'_, R, A, B, C> {
-    /// Makes text of lines while lines may soon find no place, and waits while there is no room for their text and the
-    /// device of the log gets on. Moves lines out of the book in any case, if that has many.
+    /// Makes text of lines while places for lines may soon run out, and waits while there is no room for their text and
+    /// the device of the log makes progress. In any case moves lines out of the book, if it has many.
     pub(crate) fn await_places(&self, wait: &mut LogWait) {
         self.move_lines_if_many();
         if !self.lacks_places() {

@@ -30,7 +30,7 @@ const SECONDS_FOR_THE_END: u64 = 60;
 /// How long a receiving thread waits for the device in one read, in milliseconds, if the log is to have no gaps.
 const MILLISECONDS_WITHOUT_GAPS: u64 = 2_000;
 
-/// How long it waits, in milliseconds, if calls matter more.
+/// How long a receiving thread waits for the device in one read, in milliseconds, if the log may have gaps.
 const MILLISECONDS_WITH_GAPS: u64 = 100;
 
 /// How long a receiving thread of a run with these settings waits for the device in one read, in milliseconds.

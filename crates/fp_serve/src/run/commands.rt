@@ -41,7 +41,7 @@ pub enum Refusal {
     /// The command isn't known.
     #[error("command: unknown")]
     Unknown,
-    /// The node has no unit of its own, so that without the common one its answers have no way.
+    /// The node has no unit of its own, so without the common one it couldn't send its answers.
     #[error("command: drain: no unit but the common one")]
     NoOwnUnit,
     /// The counters of a called number are asked for, and the run doesn't count numbers.
@@ -51,8 +51,8 @@ pub enum Refusal {
 
 /// The operator of a run: reads the records again, and reports faults of commands.
 pub trait Operator {
-    /// Reads the records again, replaces the newest table by theirs, and returns its index. `None` if the newest stays;
-    /// then the fault was reported.
+    /// Reads the records again, replaces the newest table with theirs, and returns the new table's index. `None` if the
+    /// newest table stays: then the fault was reported.
     fn reload(&mut self, tables: &Tables) -> Option<u32>
         ensures { IfSome result (λ index. (1 ≤ index) × (index ≤ tables.now)) };
 
@@ -270,7 +270,8 @@ fn lacks_thread<R: System>(rt: &R, statuses: &Statuses, start: Option<Instant>) 
     is_late || thread::spawn(rt, || {}).is_err()
 }
 
-/// How long to wait for the next command: until the thread of the links is known to run, a fifth of a second.
+/// How long to wait for the next command: a second, or a fifth of a second until the thread of the links is known to
+/// run.
 fn rest(statuses: &Statuses) -> Duration {
     if statuses.have_begun() {
         Duration::from_secs(REST_SECONDS)

@@ -1,33 +1,23 @@
 //! How far the drain of a node is, by the reads of its link.
 //!
 //! A read of the link drives the network unless octets wait for the link, so one that comes after a read which left none
-//! waiting does. The first of these that began after the command takes the command. One that begins two seconds after
-//! that finds the common connection closed, or closes it. Before the next one of them the messages of all octets that
-//! were read of this connection were posted: no new dialogue begins by it.
+//! waiting does. Once such a read ends and no connection has the common unit any more, all octets that were read of one
+//! wait for the link or were handed out. Before the next read that drives the network they were handed out, and their
+//! messages were posted: no new dialogue begins by them.
 
 ghost use Rattle.std.specs.Prelude.{◌≡◌, [], ◌∷◌, List};
 ghost use Rattle.fp_serve.specs.Draining.{IsSeen, IsStage, is_over, left_none};
 
-use crate::run::Stop;
-use fp_network::{Drain, MILLISECONDS_TO_DRAIN};
+use fp_network::Drain;
 use std::io;
 use std::io::ErrorKind;
-use std::rt::Clock;
 use std::sync::{Arc, Mutex, Wait};
 
-/// How many milliseconds are lost at most as the times of two clocks are rounded.
-const MILLISECONDS_OF_ROUNDING: u64 = 10;
-
-/// A read that drives the network this many milliseconds after it took the command leaves the common connection closed.
-const MILLISECONDS_TO_CLOSE: u64 = MILLISECONDS_TO_DRAIN + MILLISECONDS_OF_ROUNDING;
-
-/// The stage of a node's drain, after the command. Times are milliseconds since the run began.
+/// The stage of a node's drain, after the command.
 #[derive(Clone, Copy, Debug, PartialEq, Eq)]
 pub(crate) enum DrainStage {
-    /// The network isn't known to have taken the command.
-    Awaited,
-    /// The network took the command, at the latest at this time.
-    Taken(u64),
+    /// The common connection isn't known to be closed.
+    Open,
     /// The common connection is closed. Messages of it may wait to be read or posted.
     Closed,
     /// All messages of the common connection were posted.
@@ -40,12 +30,11 @@ impl DrainStage {
         ensures { (drove : List LinkReading) → IsStage self drove → IsStage result (reading ∷ drove) }
     {
         match self {
-            DrainStage::Awaited => DrainStage::Taken(reading.ended_at),
-            DrainStage::Taken(at) => {
-                if reading.began_at.saturating_sub(at) >= MILLISECONDS_TO_CLOSE {
+            DrainStage::Open => {
+                if reading.is_closed {
                     DrainStage::Closed
                 } else {
-                    DrainStage::Taken(at.min(reading.ended_at))
+                    DrainStage::Open
                 }
             }
             DrainStage::Closed => DrainStage::Over,
@@ -57,10 +46,8 @@ impl DrainStage {
 /// A read of the link that began after the command.
 #[derive(Clone, Copy, Debug, PartialEq, Eq)]
 pub(crate) struct LinkReading {
-    /// When it began, or an earlier time.
-    pub(crate) began_at: u64,
-    /// When it ended, or a later time.
-    pub(crate) ended_at: u64,
+    /// Whether the common connection was closed when it ended.
+    pub(crate) is_closed: bool,
     /// Whether it left no octets waiting for the link.
     pub(crate) left_none: bool,
 }
@@ -79,7 +66,7 @@ impl DrainCourse {
         ensures { IsSeen result [] }
     {
         DrainCourse {
-            stage: DrainStage::Awaited,
+            stage: DrainStage::Open,
             drives: false,
         }
     }
@@ -103,7 +90,11 @@ impl DrainCourse {
     fn is_over(self) -> bool
         ensures { (readings : List LinkReading) → IsSeen self readings → result ≡ is_over readings }
     {
-        matches!(self.stage, DrainStage::Over)
+        match self.stage {
+            DrainStage::Over => true,
+            DrainStage::Open => false,
+            DrainStage::Closed => false,
+        }
     }
 }
 
@@ -134,39 +125,18 @@ impl Draining {
         }
     }
 
-    /// A read of the link begins. The time, if the node is to drain; the earliest one, if the clock gives none.
-    pub(crate) fn begin_read<R: Clock>(&self, rt: &R, stop: &Stop) -> Option<u64> {
-        if self.drain.is_set() {
-            Some(stop.elapsed(rt).unwrap_or(0))
-        } else {
-            None
-        }
-    }
-
-    /// A read of the link into this much room ended, which began at this time, if it counts. If the clock gives no time, it
-    /// counts as one that ended at the last time: such a read neither shows when the command was taken nor that the common
-    /// connection is closed.
-    pub(crate) fn end_read<R: Wait + Clock>(
-        &self,
-        rt: &R,
-        stop: &Stop,
-        began_at: Option<u64>,
-        answer: &io::Result<usize>,
-        room: usize,
-    ) {
-        let Some(began_at) = began_at else {
-            return;
-        };
+    /// A read of the link into this much room ended, which began after the node was to drain.
+    pub(crate) fn end_read<R: Wait>(&self, rt: &R, answer: &io::Result<usize>, room: usize) {
         let reading = LinkReading {
-            began_at,
-            ended_at: stop.time(rt),
+            is_closed: self.drain.has_closed(),
             left_none: left_none(answer, room),
         };
         let mut course = self.course.lock(rt);
         *course = course.after_read(reading);
     }
 
-    /// Whether it is over: no new dialogue comes, and the link has posted all messages of the common connection.
+    /// Whether it is over: no connection has the common unit, and the link has posted all messages that were read of
+    /// one.
     pub(crate) fn is_over<R: Wait>(&self, rt: &R) -> bool {
         self.course.lock(rt).is_over()
     }

@@ -47,21 +47,21 @@ pub enum Event {
     },
     /// The records were read again, from a file of this SHA-256 digest.
     Reloaded {
-        /// Their index among those of the run, from 1.
+        /// The index of the records among those of the run, from 1.
         index: u32,
         /// The digest.
         digest: [u8; 32],
     },
     /// A link went up.
     Up {
-        /// Its number.
+        /// The number of the link.
         link: u8,
-        /// Its peer.
+        /// The peer of the link.
         peer: Peer,
     },
     /// A link went down.
     Down {
-        /// Its number.
+        /// The number of the link.
         link: u8,
         /// The first reason for it.
         why: Why,

@@ -30,7 +30,12 @@ use std::thread;
 
 /// The settings with the tag of the run. If that is the tag of the second when the run begins, returns once this second
 /// is over, so that the first message is read in a later one.
-fn with_tag_of_run<R: Wait + Clock>(rt: &R, links: &Links, settings: Settings) -> Settings
+fn with_tag_of_run<R: Wait + Clock>(
+    rt: &R,
+    links: &Links,
+    events: &Events,
+    settings: Settings,
+) -> Settings
     ensures first { result.first_link ≡ settings.first_link }
     ensures links { result.links ≡ settings.links }
     ensures has_commands { result.has_commands ≡ settings.has_commands }
@@ -39,7 +44,7 @@ fn with_tag_of_run<R: Wait + Clock>(rt: &R, links: &Links, settings: Settings) -
         return settings;
     }
     let start = now(rt);
-    await_next_second(rt, links, start);
+    await_next_second(rt, links, events, start);
     settings.with_tag(tag_of(start))
 }
 
@@ -201,7 +206,7 @@ impl<
             watched,
         } = self;
         let tagged = Server {
-            settings: with_tag_of_run(rt, &links, settings),
+            settings: with_tag_of_run(rt, &links, events, settings),
             links,
             commands,
             log,

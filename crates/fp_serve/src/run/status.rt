@@ -27,15 +27,19 @@ pub(crate) struct Statuses {
     are_down: AtomicBool,
     // The links that were accepted, in their order, in room for all.
     links: Mutex<Vec<LinkStatus>>,
+    // The number of links for which there is room.
+    most: usize,
 }
 
 impl Statuses {
     /// No link yet, and room for this number of links. Their thread doesn't run yet.
     pub(crate) fn new(alloc: Global, links: u8) -> Result<Statuses, AllocError> {
+        let most = usize::from(links);
         Ok(Statuses {
             have_begun: AtomicBool::new(false),
             are_down: AtomicBool::new(false),
-            links: Mutex::new(Vec::with_capacity(alloc, usize::from(links))?),
+            links: Mutex::new(Vec::with_capacity(alloc, most)?),
+            most,
         })
     }
 
@@ -77,8 +81,8 @@ impl Statuses {
         links.get(usize::from(place)).map(|known| known.peer)
     }
 
-    /// Notes the status of the link in this place, which was accepted. A link never goes up again, so a status from before
-    /// its end is dropped.
+    /// Notes the status of the accepted link in this place. A link never goes up again, so a status from before its end
+    /// is dropped.
     pub(crate) fn note<R: Wait>(&self, rt: &R, place: u8, status: Status) {
         if let Some(known) = self.links.lock(rt).get_mut(usize::from(place)) {
             if status.is_down || !known.status.is_down {
@@ -87,12 +91,14 @@ impl Statuses {
         }
     }
 
-    /// The links that were accepted, in their order.
+    /// The links that were accepted, in their order. Room for them is allocated before the lock is taken.
     pub(crate) fn links<R: Wait>(
         &self,
         rt: &R,
         alloc: Global,
     ) -> Result<Vec<LinkStatus>, AllocError> {
-        self.links.lock(rt).to_vec(alloc)
+        let mut links = Vec::with_capacity(alloc, self.most)?;
+        links.extend_from_slice(self.links.lock(rt).as_slice())?;
+        Ok(links)
     }
 }

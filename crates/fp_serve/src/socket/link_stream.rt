@@ -3,13 +3,14 @@
 ghost use Rattle.std.specs.Prelude.{◌≡◌};
 ghost use Rattle.std.specs.Io.{ReadsAtMost, WritesAtMost};
 
-use crate::run::{Event, Run};
+use crate::run::{Event, Events, Run};
 use crate::system::System;
 use fp_network::NetworkLink;
 use std::io;
 use std::io::{Read, Write};
 use std::net::{Shutdown, TcpStream};
-use std::sync::Arc;
+use std::rt::Clock;
+use std::sync::{Arc, Wait};
 use std::time::Duration;
 
 /// The connection of a link, read and written as a socket, whatever carries its frames.
@@ -21,15 +22,20 @@ pub(crate) enum LinkStream {
     Network(Arc<NetworkLink>),
 }
 
+/// Reports the events of a network that weren't reported yet.
+pub(crate) fn report_news<R: Wait + Clock>(rt: &R, network: &NetworkLink, events: &Events) {
+    for _ in 0..u64::MAX {
+        let Some(event) = network.next_event(rt) else {
+            break;
+        };
+        events.report(rt, Event::Network(event));
+    }
+}
+
 /// Reports the events of a network, and notes for the run's watchers whether there is a connection to send by. An event
 /// may be missing because memory ran out, so the network itself is asked about the connection.
 fn report_events<R: System>(run: &Run<'_, R>, network: &NetworkLink) {
-    for _ in 0..u64::MAX {
-        let Some(event) = network.next_event(run.rt) else {
-            break;
-        };
-        run.events.report(run.rt, Event::Network(event));
-    }
+    report_news(run.rt, network, run.events);
     if let Some(watch) = run.watch {
         watch.metrics.note_connected(network.is_connected(run.rt));
     }
@@ -47,9 +53,11 @@ fn read_network<R: System>(
         return network.read(run.rt, octets);
     };
     let room = octets.len();
-    let began_at = draining.begin_read(run.rt, run.stop);
+    let is_set = draining.drain.is_set();
     let answer = network.read(run.rt, octets);
-    draining.end_read(run.rt, run.stop, began_at, &answer, room);
+    if is_set {
+        draining.end_read(run.rt, &answer, room);
+    }
     answer
 }
 

@@ -118,7 +118,8 @@ pub(crate) struct LinkMetrics {
     // The counts of the thread that sends. It has the lock for a whole series of parcels, also while it waits for the
     // socket.
     pub(crate) sending: Mutex<SentCounts>,
-    // What that thread counted, as it was noted last. Taken after the other lock, or before it by those who don't wait for that.
+    // The counts of the sending thread, as they were noted last. This lock is taken after the one of `sending`; a
+    // thread that takes it first only tries that one.
     sent: Mutex<Counters>,
     state: Mutex<LinkState>,
     // The time of its clock's last tick, in milliseconds since the run began.

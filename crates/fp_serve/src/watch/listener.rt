@@ -31,7 +31,7 @@ const MOST_DESCRIPTORS: usize = MOST_VISITORS + 1;
 /// The longest wait of the thread before it looks whether the run is over, or a connection is late, in milliseconds.
 const LOOK_MILLISECONDS: i32 = 200;
 
-/// The rest of the thread after a connection couldn't be accepted, in milliseconds.
+/// The pause of the thread after a connection couldn't be accepted, in milliseconds.
 const MILLISECONDS_AFTER_A_FAULT: u64 = 20;
 
 /// The least age of the numbers before they are read anew, in milliseconds.

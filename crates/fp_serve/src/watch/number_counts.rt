@@ -16,8 +16,8 @@ use std::alloc::{AllocError, Global};
 use std::collections::VecDeque;
 use std::sync::{Arc, Mutex, MutexGuard, Wait};
 
-/// The most frames that wait to be counted: as many as the book of a link has lines. More are left out, which happens
-/// only while no line leaves the book.
+/// The most frames that wait to be counted: as many as the book of a link has lines. Further frames aren't counted.
+/// That happens only while no line leaves the book.
 const MOST_FRAMES: usize = 8_192;
 
 /// The counters of each called number of a link.

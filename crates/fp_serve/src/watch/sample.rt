@@ -1,8 +1,8 @@
-//! The time from the read of a message to the write of its answer, of one message at a time.
+//! The time from reading a message to writing its answer, for one message at a time.
 //!
 //! The receiving thread takes a Begin now and then, if none is open, with its originating transaction identifier and
 //! the time of its read. The thread that sends a message to this identifier closes the sample, once that was written.
-//! No row, no book and no log has anything of it.
+//! Rows, books and logs know nothing of it.
 
 use crate::moment::time_since;
 use fp_frames::Frame;
@@ -12,7 +12,7 @@ use std::sync::atomic::{AtomicBool, Ordering};
 use std::sync::{Mutex, Wait};
 use std::time::{Duration, Instant};
 
-/// How long an answer is awaited, in seconds. A Begin without an answer by then may never get one. For example, after
+/// How long an answer is awaited, in seconds. A Begin that has no answer by then may never get one, for example after
 /// an Abort of its peer.
 const MOST_SECONDS: u64 = 20;
 
@@ -32,7 +32,7 @@ pub(crate) struct Sample {
 }
 
 impl Sample {
-    /// No answer is awaited.
+    /// A sample that awaits no answer.
     pub(crate) fn new() -> Sample {
         Sample {
             is_open: AtomicBool::new(false),
@@ -64,7 +64,7 @@ impl Sample {
         self.is_open.load(Ordering::SeqCst)
     }
 
-    /// When the message was read that this one answers, if it is the sample's. Then the sample is closed. An answer
+    /// The time when the sample's message was read, if this message answers it. Then the sample is closed. An answer
     /// that is too late isn't counted: it may answer another message with the same identifier.
     pub(crate) fn close<R: Wait + Clock>(&self, rt: &R, message: &[u8]) -> Option<Instant> {
         let mut asked = self.asked.lock(rt);

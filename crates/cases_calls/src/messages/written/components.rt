@@ -18,7 +18,7 @@ use std::alloc::Global;
 /// The most octets of a global code in a case.
 const MOST: usize = 1000;
 
-/// A component as its word, and what it borrows: the octets of a global code, and a parameter.
+/// A component as its word, with the values that it borrows: the octets of a global code, and a parameter.
 #[derive(Drop)]
 pub(crate) struct Held<'a> {
     word: &'a str,
@@ -30,7 +30,7 @@ pub(crate) struct Held<'a> {
     ghost room: { tree_room (option_map tree_of parameter) ≤ 1000 },
 }
 
-/// The first part of a component, and what is after it and a colon.
+/// The first part of a component, and the text after it and a colon.
 fn cut(text: &str) -> (&str, &str) {
     match text.split_once(':') {
         Some(parts) => parts,
@@ -38,7 +38,7 @@ fn cut(text: &str) -> (&str, &str) {
     }
 }
 
-/// The code and the parameter of a component as text, empty where it has none.
+/// The code and the parameter of a component as text; either is empty if the component has none.
 fn coded_text(word: &str) -> (&str, &str) {
     let (kind, rest) = cut(word);
     let (_, rest) = cut(rest);
@@ -52,7 +52,7 @@ fn coded_text(word: &str) -> (&str, &str) {
     cut(rest)
 }
 
-/// The number of a local code, and `None` for a global code and for none.
+/// The number of a local code; `None` for a global code or no code.
 fn local_of(code: &str) -> anyhow::Result<Option<i32>> {
     if code.is_empty() || code.starts_with("oid") {
         return Ok(None);
@@ -60,7 +60,7 @@ fn local_of(code: &str) -> anyhow::Result<Option<i32>> {
     Ok(Some(code.parse()?))
 }
 
-/// The octets of a global code, and none for any other.
+/// The octets of a global code; no octets for any other.
 fn octets_of_code(alloc: Global, code: &str) -> anyhow::Result<Vec<u8>>
     ensures { IfOk result (λ octets. length octets.items ≤ 1000) }
 {

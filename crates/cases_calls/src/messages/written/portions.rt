@@ -14,7 +14,7 @@ use std::alloc::Global;
 /// The most octets of an element in a case.
 const MOST: usize = 1000;
 
-/// The element of a text, or `None` for `none` and for no text.
+/// The element of a text; `None` for `none` or an empty text.
 pub(crate) fn optional_element(alloc: Global, text: &str) -> anyhow::Result<Option<Element>>
     ensures tags { IfOk result (λ element. CopyHasTags (option_map tree_of element)) }
     ensures room { IfOk result (λ element. tree_room (option_map tree_of element) ≤ 1000) }
@@ -43,7 +43,7 @@ pub(crate) fn dialogue_of(alloc: Global, text: &str) -> anyhow::Result<Option<El
     Ok(Some(element))
 }
 
-/// An element that may be there, lent.
+/// A reference to an element, if there is one.
 pub(crate) fn lent(element: Option<&Element>) -> Option<ElementRef<'_>>
     ensures { tree_in result ≡ option_map (λ element. tree_of element.now) element.entry }
 {

@@ -37,16 +37,16 @@ returns-in-Close-clause-rest c =
 pub returns-in-Nothing-clause-comes_to : goal.returns-in-Nothing-clause-comes_to
 returns-in-Nothing-clause-comes_to c =
     subst (λ (arrival : Arrival). Results c.args.place c.args.octets.now arrival c.args.self.now c.args.self.now) (sym c.in-Nothing.is)
-    (λ setting history led. ([], (refl, refl, refl), led))
+    (λ setting history led. ([], (refl, refl, refl, refl), led))
 
 pub returns-in-Skipped-clause-comes_to : goal.returns-in-Skipped-clause-comes_to
-returns-in-Skipped-clause-comes_to c setting history led = ([], (rw c.in-Skipped.is (refl, refl, refl)), led)
+returns-in-Skipped-clause-comes_to c setting history led = ([], (rw c.in-Skipped.is (refl, refl, refl, ap (λ (t : Tally). t.skipped) c.skip.ensures)), led)
 
 pub returns-in-Active-clause-comes_to : goal.returns-in-Active-clause-comes_to
 returns-in-Active-clause-comes_to c =
     subst (λ (arrival : Arrival). Results c.args.place c.args.octets.now arrival c.args.self.now c.activate.new.self) (sym c.in-Active.is)
     (results_active c.in-Active.unit c.args.place c.args.octets.now c.args.self.now c.activate.new.self c.activate.ensures.link.for_link
-    c.activate.ensures.came)
+    c.activate.ensures.skipped c.activate.ensures.came)
 
 pub returns-in-UnitData-clause-comes_to : goal.returns-in-UnitData-clause-comes_to
 returns-in-UnitData-clause-comes_to c =
@@ -54,7 +54,7 @@ returns-in-UnitData-clause-comes_to c =
     subst (λ (arrival : Arrival). Results c.args.place c.args.octets.now arrival c.args.self.now c.unit_data.new.self) (sym c.in-UnitData.is)
     (λ setting history led.
     let so = handed_on setting history led in
-    (so.1, (so.0, so.2, so.3, so.5, c.unit_data.ensures.others), so.4)))
+    (so.1, (so.0, so.2, so.3, so.5, c.unit_data.ensures.others, ap (λ (t : Tally). t.skipped) c.unit_data.ensures.tally), so.4)))
     c.unit_data.ensures.handed_on
 
 pub returns-in-Close-clause-comes_to : goal.returns-in-Close-clause-comes_to
@@ -63,7 +63,7 @@ returns-in-Close-clause-comes_to c =
     subst (λ (arrival : Arrival). Results c.args.place c.args.octets.now arrival c.args.self.now c.close.new.self) (sym c.in-Close.is)
     (λ setting history led. (
       ended_unless (is_over_at c.args.self.now c.args.place) c.args.place,
-      (refl, close.link.for_link, (close.here, close.others)),
+      (refl, close.link.for_link, (close.here, close.others), close.skipped),
       closed_event c.args.place c.args.self.now c.close.new.self setting history close.stays close.ended led,
     ))
 
@@ -75,10 +75,11 @@ pub returns-in-Nothing-clause-counted : goal.returns-in-Nothing-clause-counted
 returns-in-Nothing-clause-counted c = counts_none _ _ refl refl refl
 
 pub returns-in-Skipped-clause-counted : goal.returns-in-Skipped-clause-counted
-returns-in-Skipped-clause-counted c = counts_same _ _ (λ why. ap (λ (t : Tally). closings_of t why) c.skip.ensures) (λ place. refl) (news_same _ _ refl)
+returns-in-Skipped-clause-counted c = counts_same _ _ (λ why. ap (λ (t : Tally). closings_of t why) c.skip.ensures)
+    (ap (λ (t : Tally). t.connections) c.skip.ensures) (λ place. refl) (news_same _ _ refl)
 
 pub returns-in-Close-clause-counted : goal.returns-in-Close-clause-counted
 returns-in-Close-clause-counted c =
     let close = c.close.ensures in
     counts_one _ c.args.place c.args.self.now c.close.new.self close.here close.others close.uncounted close.counted close.silent
-    close.reported
+    close.reported close.connections

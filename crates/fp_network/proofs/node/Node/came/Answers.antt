@@ -14,7 +14,7 @@ pub returns-clause-came : goal.returns-clause-came
 returns-clause-came c =
     let new = c.in_ok-connection.ensures in (
       c.in-Some.ensures,
-      (rw (c.note-2.ensures.places, c.put.ensures.here) (new.state, new.open, new.came, new.reader, new.asks)),
+      (rw (c.note-2.ensures.places, c.put.ensures.here) (new.state, new.open, new.came, new.reader, new.asks, new.reads)),
       λ other apart. rw c.note-2.ensures.places (c.put.ensures.others other apart),
     )
 

@@ -18,7 +18,7 @@ loop-place-preserved c =
       ended = closes_more _ _ _ inv.ended (closes_one _ _ _ _ call.here call.others call.stays call.ended);
       link = leaves_more _ _ _ inv.link call.link;
       counted = counts_more _ _ _ inv.link.count inv.counted (counts_one _ _ _ _ call.here call.others call.uncounted call.counted
-          call.silent call.reported);
+          call.silent call.reported call.connections);
     }
 
 pub returns-clause-each : goal.returns-clause-each

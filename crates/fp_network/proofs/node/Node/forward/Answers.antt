@@ -12,7 +12,7 @@ use Rattle.fp_network.proofs.node.Node.forward.Goals as goal
 
 pub returns-in_ok-send-in-By-clause-forwards : goal.returns-in_ok-send-in-By-clause-forwards
 returns-in_ok-send-in-By-clause-forwards c setting history led =
-    let way = c.make_way_for.ensures.ended in
+    let way = c.make_way_for.ensures.ended.0 in
     let sent = c.in_ok-unit_data.ensures.sent setting (way.0 ++ history) (way.2 setting history led) in
     let send = c.in_ok-send-in-By.ensures in
     record {
@@ -20,7 +20,7 @@ returns-in_ok-send-in-By-clause-forwards c setting history led =
       between = c.make_way_for.new.self;
       closes = way.1;
       way = way.3 setting history led;
-      too_long = way.4;
+      too_long = c.make_way_for.ensures.ended.1;
       refused = c.make_way_for.ensures.refused;
       rest = c.make_way_for.ensures.rest;
       sent = sendings.By c.in-By.unit_data;
@@ -48,14 +48,14 @@ returns-in_ok-send-in-By-clause-rest c =
 
 pub returns-in-NoConnection-clause-forwards : goal.returns-in-NoConnection-clause-forwards
 returns-in-NoConnection-clause-forwards c setting history led =
-    let way = c.make_way_for.ensures.ended in
+    let way = c.make_way_for.ensures.ended.0 in
     let sent = c.in_ok-unit_data.ensures.sent setting (way.0 ++ history) (way.2 setting history led) in
     record {
       closed = way.0;
       between = c.make_way_for.new.self;
       closes = way.1;
       way = way.3 setting history led;
-      too_long = way.4;
+      too_long = c.make_way_for.ensures.ended.1;
       refused = c.make_way_for.ensures.refused;
       rest = c.make_way_for.ensures.rest;
       sent = sendings.NoConnection;
@@ -71,14 +71,14 @@ returns-in-NoConnection-clause-forwards c setting history led =
 
 pub returns-in-TooLong-clause-forwards : goal.returns-in-TooLong-clause-forwards
 returns-in-TooLong-clause-forwards c setting history led =
-    let way = c.make_way_for.ensures.ended in
+    let way = c.make_way_for.ensures.ended.0 in
     let sent = c.in_ok-unit_data.ensures.sent setting (way.0 ++ history) (way.2 setting history led) in
     record {
       closed = way.0;
       between = c.make_way_for.new.self;
       closes = way.1;
       way = way.3 setting history led;
-      too_long = way.4;
+      too_long = c.make_way_for.ensures.ended.1;
       refused = c.make_way_for.ensures.refused;
       rest = c.make_way_for.ensures.rest;
       sent = sendings.TooLong;
@@ -103,9 +103,9 @@ returns-in_ok-send-in-By-clause-counted c =
 pub returns-in-NoConnection-clause-counted : goal.returns-in-NoConnection-clause-counted
 returns-in-NoConnection-clause-counted c =
     let way = c.make_way_for.ensures.counted in
-    record { each = way.each; stay = way.stay; news = record { more = way.news.more; grow = way.news.grow } }
+    record { each = way.each; stay = way.stay; connections = way.connections; news = record { more = way.news.more; grow = way.news.grow } }
 
 pub returns-in-TooLong-clause-counted : goal.returns-in-TooLong-clause-counted
 returns-in-TooLong-clause-counted c =
     let way = c.make_way_for.ensures.counted in
-    record { each = way.each; stay = way.stay; news = record { more = way.news.more; grow = way.news.grow } }
+    record { each = way.each; stay = way.stay; connections = way.connections; news = record { more = way.news.more; grow = way.news.grow } }

@@ -37,7 +37,7 @@ loop-unit-preserved c =
       link = leaves_more _ _ _ inv.link close.link;
       counted = counts_more c.args.self.now c.loop-unit.self c.close.new.self inv.link.count inv.counted
           (counts_one _ _ c.loop-unit.self c.close.new.self close.here close.others close.uncounted close.counted close.silent
-          close.reported);
+          close.reported close.connections);
       none = λ setting history led tied.
           let way = inv.ended in
           let closed = way.0 in

@@ -1,4 +1,5 @@
 use Rattle.fp_network.specs.declared.event.Closing.TheVariants.{TooLong}
+use Rattle.fp_network.specs.declared.tally.Tally.{Tally}
 use Rattle.std.proofs.Common.{Bool, ◌++◌, inr, refl, subst, ap, ◌∙◌}
 use Rattle.std.specs.Option.{option_map}
 use Rattle.fp_adaptor.specs.Adaptor.{Led}
@@ -29,7 +30,7 @@ pub returns-in-Ok-clause-next : goal.returns-in-Ok-clause-next
 returns-in-Ok-clause-next c =
     let next = c.next_message.ensures in
     next_or_end c.args.place c.args.self.now c.next_message.new.self c.in-Ok.message c.in-Ok.ensures.next
-    (record { others = next.others; link = next.link; adaptor = next.adaptor })
+    (record { others = next.others; link = next.link; adaptor = next.adaptor; tally = next.tally })
 
 pub returns-in-Err-TooLong-clause-next : goal.returns-in-Err-TooLong-clause-next
 returns-in-Err-TooLong-clause-next c setting history led =
@@ -42,6 +43,7 @@ returns-in-Err-TooLong-clause-next c setting history led =
         refl,
         leaves_more _ _ _ next.link close.link,
         (close.here ∙ ap (option_map (closing TooLong)) kept, λ other apart. close.others other apart ∙ next.others other apart),
+        close.skipped ∙ ap (λ (t : Tally). t.skipped) next.tally,
       ),
       subst (λ (over : Bool). Led c.close.new.self.adaptor setting (ended_unless over c.args.place ++ history)) (ap is_over_of kept)
           (closed_event c.args.place c.next_message.new.self c.close.new.self setting history close.stays close.ended
@@ -60,4 +62,4 @@ returns-in-Err-TooLong-clause-counted c =
     counts_more c.args.self.now c.next_message.new.self c.close.new.self next.link.count
     (counts_at c.args.place c.args.self.now c.next_message.new.self (ap course_of c.in-Err-TooLong.ensures.kept) next.others next.tally next.news)
     (counts_one TooLong c.args.place c.next_message.new.self c.close.new.self close.here close.others close.uncounted close.counted close.silent
-    close.reported)
+    close.reported close.connections)

@@ -15,7 +15,7 @@ loop-message-init c =
       so = λ setting history led. record {
         fed = c.feed.new.self;
         is_fed = feed.fed;
-        only = record { others = feed.others; link = feed.link; adaptor = feed.adaptor };
+        only = record { others = feed.others; link = feed.link; adaptor = feed.adaptor; tally = feed.tally };
         messages = [];
         later = history;
         led = same_led _ _ setting history feed.adaptor led;

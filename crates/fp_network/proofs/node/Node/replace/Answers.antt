@@ -40,4 +40,4 @@ pub returns-clause-counted : goal.returns-clause-counted
 returns-clause-counted c =
     let close = c.close.ensures in
     counts_one Replaced c.in-Some.earlier c.args.self.now c.close.new.self close.here close.others close.uncounted close.counted close.silent
-    close.reported
+    close.reported close.connections

@@ -22,7 +22,7 @@ returns-clause-steps c setting history led =
       between = c.step.new.self;
       arrival = c.in_ok-arrival.arrival;
       arrives = step.arrives;
-      only = record { others = step.others; link = step.link; adaptor = step.adaptor };
+      only = record { others = step.others; link = step.link; adaptor = step.adaptor; tally = step.tally };
       more = so.0;
       comes_to = so.1;
       keeps = keeps_more _ _ _ (keeps_left _ _ step.link) c.in_ok-arrive.ensures.keeps;

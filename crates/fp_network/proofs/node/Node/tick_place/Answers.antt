@@ -25,4 +25,4 @@ pub returns-clause-counted : goal.returns-clause-counted
 returns-clause-counted c =
     let close = c.close.ensures in
     counts_one _ _ _ _ close.here close.others close.uncounted close.counted close.silent
-    close.reported
+    close.reported close.connections
