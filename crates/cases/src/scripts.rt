@@ -1,31 +1,30 @@
 //! Cases of many steps, and names for octets.
 //!
-//! A case may go on in the lines after its first one, which begin with a blank. A line `STEPS => ANSWERS` has more
-//! steps and what they must answer: they follow those before them, with `; ` between. A line without ` => ` has more of
-//! the last answer.
+//! A case may continue in the lines after its first one, which begin with a blank. A line `STEPS => ANSWERS` has more
+//! steps and the answers that they must get. They are appended to the earlier ones, with `; ` between. A line without `
+//! => ` continues the last answer.
 //!
-//! A line `message NAME = WORD ..` gives octets a name. Its words are octets in hexadecimal and names that were given
-//! before it. In the cases after it, and in what is wanted of them, the name as a word of its own stands for the
-//! octets.
+//! A line `message NAME = WORD ..` gives octets a name. Its words are octets in hexadecimal, or names from earlier
+//! lines. In later cases and their wanted answers, the name as a word of its own means these octets.
 
 use crate::{Answers, fault_of, is_comment};
 use std::alloc::{AllocError, Global};
 
-/// A name and the octets it stands for, in hexadecimal.
+/// A name, and its octets in hexadecimal.
 #[derive(Drop)]
 struct Name {
     name: String,
     octets: String,
 }
 
-/// A case: its steps and what they must answer.
+/// A case: its steps, and the answers that they must get.
 #[derive(Drop)]
 struct Script {
     input: String,
     wanted: String,
 }
 
-/// Writes a word, or the octets it stands for.
+/// Writes a word, or, if it is a name, its octets.
 fn push_word(names: &[Name], word: &str, out: &mut String) -> Result<(), AllocError> {
     for one in names {
         if one.name.as_str() == word {
@@ -35,13 +34,13 @@ fn push_word(names: &[Name], word: &str, out: &mut String) -> Result<(), AllocEr
     out.push_str(word)
 }
 
-/// Writes a word, or the octets it stands for, and this mark after it.
+/// Writes a word, or, if it is a name, its octets, and then this mark.
 fn push_ended(names: &[Name], word: &str, mark: char, out: &mut String) -> Result<(), AllocError> {
     push_word(names, word, out)?;
     out.push(mark)
 }
 
-/// Writes words, with octets for names. A semicolon or a comma is no part of a name.
+/// Writes words, with the octets in place of names. A semicolon or a comma after a name isn't part of it.
 fn push_words(names: &[Name], words: &str, out: &mut String) -> Result<(), AllocError> {
     let mut is_first = true;
     for word in words.split(' ') {
@@ -60,7 +59,7 @@ fn push_words(names: &[Name], words: &str, out: &mut String) -> Result<(), Alloc
     Ok(())
 }
 
-/// Writes steps or answers after those that are there.
+/// Appends steps or answers, with `; ` between them and the earlier ones.
 fn push_steps(names: &[Name], steps: &str, out: &mut String) -> Result<(), AllocError> {
     if !out.is_empty() {
         out.push_str("; ")?;
@@ -68,7 +67,7 @@ fn push_steps(names: &[Name], steps: &str, out: &mut String) -> Result<(), Alloc
     push_words(names, steps, out)
 }
 
-/// The name that a line gives, and the words it stands for.
+/// The name that a line defines, and the words for its octets; `None` for any other line.
 fn name_of(line: &str) -> Option<(&str, &str)> {
     line.strip_prefix("message ")?.split_once(" = ")
 }
@@ -84,7 +83,7 @@ fn add_name(alloc: Global, names: &mut Vec<Name>, name: &str, words: &str) -> an
     Ok(())
 }
 
-/// Adds a line to a case.
+/// Adds a line to a case: steps and their answers, or the rest of the last answer.
 fn add_to(names: &[Name], script: &mut Script, line: &str) -> Result<(), AllocError> {
     if let Some((steps, answers)) = line.split_once(" => ") {
         push_steps(names, steps, &mut script.input)?;
@@ -94,7 +93,7 @@ fn add_to(names: &[Name], script: &mut Script, line: &str) -> Result<(), AllocEr
     push_words(names, line, &mut script.wanted)
 }
 
-/// Begins a case.
+/// Adds a case without steps.
 fn add_script(alloc: Global, scripts: &mut Vec<Script>) -> Result<(), AllocError> {
     scripts.push(Script {
         input: String::new(alloc),
@@ -103,7 +102,7 @@ fn add_script(alloc: Global, scripts: &mut Vec<Script>) -> Result<(), AllocError
     Ok(())
 }
 
-/// Reads a line.
+/// Reads a line: a comment, a name, the first line of a case, or a further one.
 fn read_line(
     alloc: Global,
     names: &mut Vec<Name>,
@@ -137,8 +136,8 @@ fn read_scripts<R: Input + AllocGlobal>(rt: &R) -> anyhow::Result<Vec<Script>> {
     Ok(scripts)
 }
 
-/// Answers the cases of standard input, which may have many steps and names for octets, prints what is wrong with each,
-/// and at the end `N cases, M wrong`.
+/// Answers the cases of standard input, which may have many steps and names for octets. Prints each wrong answer, and
+/// at the end `N cases, M wrong`.
 pub fn run<R: Input + Print + AllocGlobal, A: Answers>(
     rt: &R,
     answers: &mut A,

@@ -1,4 +1,4 @@
-//! What a case asks for, from its words.
+//! Reading a case: how to run the program, and with what limits.
 
 use anyhow::bail;
 use cases::first_word;
@@ -6,17 +6,17 @@ use cases::first_word;
 /// How the program is run.
 #[derive(Clone, Copy)]
 pub(crate) enum Kind<'a> {
-    /// Once.
+    /// One run.
     Once,
-    /// Once, from an input that is interrupted before each octet and fails after the last one.
+    /// One run, whose input is interrupted before each octet and fails after the last one.
     Torn,
-    /// Once, beside the file of this name.
+    /// One run, whose output is compared with the file of this name.
     Beside(&'a str),
-    /// Once, with a note of what was flushed before each line.
+    /// One run, which notes how many lines were flushed before each line was read.
     Paced,
-    /// Again and again, with a device that fails later and later.
+    /// Several runs. In each one this device fails one octet later.
     Failing(Device),
-    /// With so many octets of the message, up to so many.
+    /// Several runs, with the first octets of the message: from the first of these numbers of octets to the second.
     Fronts(usize, usize),
 }
 
@@ -29,7 +29,7 @@ pub(crate) enum Device {
     Output,
 }
 
-/// What the writers of a run take.
+/// The limits of a run's writers.
 #[derive(Clone, Copy)]
 pub(crate) struct Limits {
     /// How many octets standard output takes.
@@ -41,7 +41,7 @@ pub(crate) struct Limits {
 }
 
 impl Limits {
-    /// Writers that take all.
+    /// Writers that take everything.
     pub(crate) const NONE: Limits = Limits {
         output: usize::MAX,
         is_flushed: true,
@@ -49,18 +49,18 @@ impl Limits {
     };
 }
 
-/// What a case asks for.
+/// A case: the kind of its runs, their limits, and their words and input.
 #[derive(Clone, Copy)]
 pub(crate) struct Asked<'a> {
     /// How the program is run.
     pub(crate) kind: Kind<'a>,
-    /// What its writers take.
+    /// The limits of its writers.
     pub(crate) limits: Limits,
     /// The text after the name of the program.
     pub(crate) text: &'a str,
 }
 
-/// What an input asks for.
+/// Reads a case.
 pub(crate) fn asked_by<'a>(input: &'a str) -> anyhow::Result<Asked<'a>> {
     let mut limits = Limits::NONE;
     match input.strip_prefix("mute ") {
@@ -72,7 +72,7 @@ pub(crate) fn asked_by<'a>(input: &'a str) -> anyhow::Result<Asked<'a>> {
     }
 }
 
-/// What an input asks for whose errors are taken so.
+/// Reads a case after its `mute`, if it had one. `limits` already has the limit of standard error.
 fn run_of<'a>(input: &'a str, limits: Limits) -> anyhow::Result<Asked<'a>> {
     let (word, rest) = first_word(input);
     match word {
@@ -88,7 +88,7 @@ fn run_of<'a>(input: &'a str, limits: Limits) -> anyhow::Result<Asked<'a>> {
     }
 }
 
-/// A run of this kind, of the words after the name of the program.
+/// A run of this kind. `text` is `scp` and the words of the run.
 fn run_as<'a>(kind: Kind<'a>, limits: Limits, text: &'a str) -> anyhow::Result<Asked<'a>> {
     match text.strip_prefix("scp") {
         Some(text) => Ok(Asked { kind, limits, text }),
@@ -96,7 +96,7 @@ fn run_as<'a>(kind: Kind<'a>, limits: Limits, text: &'a str) -> anyhow::Result<A
     }
 }
 
-/// A run whose output takes so many octets, and can be flushed or not.
+/// A run whose standard output takes the number of octets at the front of `text`.
 fn limited<'a>(text: &'a str, limits: Limits, is_flushed: bool) -> anyhow::Result<Asked<'a>> {
     let (room, rest) = first_word(text);
     let limits = Limits {
@@ -107,7 +107,7 @@ fn limited<'a>(text: &'a str, limits: Limits, is_flushed: bool) -> anyhow::Resul
     run_as(Kind::Once, limits, rest)
 }
 
-/// A run beside a file.
+/// A run whose output is compared with the file named at the front of `text`.
 fn beside<'a>(text: &'a str, limits: Limits) -> anyhow::Result<Asked<'a>> {
     let (file, rest) = first_word(text);
     run_as(Kind::Beside(file), limits, rest)
@@ -123,7 +123,7 @@ fn failing<'a>(text: &'a str, limits: Limits) -> anyhow::Result<Asked<'a>> {
     }
 }
 
-/// Runs with so many octets of the message, up to so many.
+/// Runs with the first octets of the message, from the first number of octets in `text` to the second.
 fn fronts<'a>(text: &'a str, limits: Limits) -> anyhow::Result<Asked<'a>> {
     let (first, rest) = first_word(text);
     let (last, rest) = first_word(rest);

@@ -1,7 +1,7 @@
 //! The words and the input of a run, from text: `WORD .. | LINE | ..`.
 //!
-//! Each `|` begins a line of the input. The words up to the next one are the line, without the spaces between them,
-//! and a line feed follows. `SP` is a space, `CR` a carriage return, `6*8192` so many times the digit, and `CUT` at the
+//! Each `|` begins a line of the input. The words up to the next one are the line, without the spaces between them, and
+//! a line feed follows. `SP` is a space, `CR` a carriage return, `6*8192` the digit 6, 8,192 times, and `CUT` at the
 //! end says that no line feed follows. With no `|` the input is empty.
 
 use std::alloc::Global;
@@ -9,17 +9,17 @@ use std::alloc::Global;
 /// The name under which the system hands the program its words.
 const EXECUTABLE: &str = "out/scp_main";
 
-/// What a run is given.
+/// The words and the input of a run.
 #[derive(Drop)]
 pub(crate) struct CommandLine {
-    /// The words, of which the first names the program.
+    /// The words. The first one names the program.
     pub(crate) words: Vec<String>,
     /// The octets of standard input.
     pub(crate) input: Vec<u8>,
 }
 
 impl CommandLine {
-    /// What a text says.
+    /// Reads the words and the input of a run from a text.
     pub(crate) fn read(alloc: Global, text: &str) -> anyhow::Result<CommandLine> {
         let mut line = CommandLine {
             words: Vec::new(alloc),
@@ -68,7 +68,7 @@ fn push_line(input: &mut Vec<u8>, text: &str) -> anyhow::Result<()> {
     Ok(())
 }
 
-/// Adds a word, so many times if `*` and a number follow it.
+/// Adds a word; if `*` and a number follow it, that many times.
 fn push_word(input: &mut Vec<u8>, word: &str) -> anyhow::Result<()> {
     let Some((word, times)) = word.split_once('*') else {
         input.extend_from_slice(word.as_bytes())?;

@@ -1,4 +1,4 @@
-//! Readers and writers in place of a run's devices. All but `Shown` pass on one octet at a time.
+//! Readers and writers that replace a run's devices. All except `Shown` take or give one octet at a time.
 
 use std::alloc::Global;
 use std::cell::Cell;
@@ -39,12 +39,12 @@ impl Read for Torn<'_> {
     }
 }
 
-/// A reader that fails after so many reads.
+/// A reader that fails after `reads` reads.
 #[derive(Drop)]
 pub(crate) struct Failing<'a> {
     /// The octets that have not been read.
     pub(crate) octets: &'a [u8],
-    /// How many more reads there are.
+    /// How many more reads succeed.
     pub(crate) reads: usize,
 }
 
@@ -107,16 +107,16 @@ impl Read for Paced<'_> {
     }
 }
 
-/// A writer that says in a cell how many lines were written and flushed.
+/// A writer that keeps in a cell how many lines were written and flushed.
 #[derive(Drop)]
 pub(crate) struct Shown<'a> {
-    /// What was written.
+    /// The octets written.
     pub(crate) octets: Vec<u8>,
     flushed: &'a Cell<usize>,
 }
 
 impl Shown<'_> {
-    /// A writer to which nothing was written.
+    /// An empty writer.
     pub(crate) fn new<'a>(alloc: Global, flushed: &'a Cell<usize>) -> Shown<'a> {
         Shown {
             octets: Vec::new(alloc),
@@ -138,17 +138,17 @@ impl Write for Shown<'_> {
     }
 }
 
-/// A writer with room for so many octets, which may refuse to be flushed.
+/// A writer with room for a limited number of octets, which may refuse to be flushed.
 #[derive(Drop)]
 pub(crate) struct Sink {
-    /// What was written.
+    /// The octets written.
     pub(crate) octets: Vec<u8>,
     room: usize,
     is_flushed: bool,
 }
 
 impl Sink {
-    /// A writer to which nothing was written.
+    /// An empty writer.
     pub(crate) fn new(alloc: Global, room: usize, is_flushed: bool) -> Sink {
         Sink {
             octets: Vec::new(alloc),

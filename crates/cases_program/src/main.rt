@@ -1,28 +1,28 @@
 //! Worked cases of whole runs of the program: a command line and the lines of standard input, against the exit status,
 //! standard output and standard error.
 //!
-//! | Case | What it gives |
+//! | Case | Result |
 //! |---|---|
 //! | `scp WORD .. \| LINE \| ..` | the run with these words and this input: `STATUS, OUTPUT, ERRORS` |
 //! | `torn scp ..` | the same, with an interruption before each octet of the input, and a failure after the last one |
-//! | `full ROOM scp ..` | the same if standard output has room for so many octets, and takes one at a time |
+//! | `full ROOM scp ..` | the same if standard output has room for ROOM octets, and takes one at a time |
 //! | `unflushed ROOM scp ..` | the same, and it can't be flushed |
-//! | `as FILE scp ..` | the run, with the name of a file of data/ in place of an output, or of errors, that is this file octet by octet |
-//! | `mute CASE` | one of these if standard error takes nothing |
+//! | `as FILE scp ..` | the run; if its output or its errors equal a file of data/ octet by octet, the name of that file instead |
+//! | `mute CASE` | the same as CASE, one of the others, if standard error takes nothing |
 //! | `paced scp ..` | the run, and how many lines were written and flushed before each line, and before the end, was read |
 //! | `failing reads scp ..` | runs whose first, second, .. read of an octet fails: how many end early, and the first that doesn't |
 //! | `failing writes scp ..` | the same with the writes of an octet each |
-//! | `fronts FIRST LAST scp ..` | runs with the first FIRST, .., LAST octets of the message: how many come to the same as the first of them, before one that doesn't, and what |
+//! | `fronts FIRST LAST scp ..` | runs with the first FIRST, .., LAST octets of the message: how many have the same outcome as the first of them, before one that doesn't, and that outcome |
 //!
-//! A run of `failing` ends early if its status is 1, what it wrote is a front of what a whole run writes, and its line
+//! A run of `failing` ends early if its status is 1, its output is a prefix of the output of a whole run, and its line
 //! on standard error names the device that failed.
 //!
-//! | Module | What it has |
+//! | Module | Contents |
 //! |---|---|
-//! | `asked` | what a case asks for |
+//! | `asked` | the kind and the limits of a case's runs |
 //! | `command_line` | the words and the input of a run |
 //! | `devices` | readers and writers that fail, or note how they are used |
-//! | `outcome` | what a run came to, as text |
+//! | `outcome` | the outcome of a run, as text |
 //! | `runs` | the runs |
 #![tactic(auto)]
 

@@ -1,21 +1,22 @@
-//! What a run came to, as text: `STATUS, OUTPUT, ERRORS`.
+//! The outcome of a run, as text: `STATUS, OUTPUT, ERRORS`.
 //!
 //! OUTPUT and ERRORS are `-` if nothing was written. Else they are the lines, with ` | ` between them, and with ` CUT`
-//! after a last line that has no line feed. Beside a file, the name of the file is written in place of its octets.
+//! after a last line that has no line feed. If a run is compared with a file, the name of the file is written in place
+//! of its octets.
 
-/// What a run came to.
+/// The outcome of a run.
 #[derive(Drop)]
 pub(crate) struct Outcome {
     /// The exit status.
     pub(crate) status: u8,
-    /// What was written to standard output.
+    /// The octets written to standard output.
     pub(crate) output: Vec<u8>,
-    /// What was written to standard error.
+    /// The octets written to standard error.
     pub(crate) errors: Vec<u8>,
 }
 
 impl Outcome {
-    /// Adds the status and what was written.
+    /// Adds the status, the output and the errors.
     pub(crate) fn write(&self, text: &mut String) -> anyhow::Result<()> {
         write!(text, "{}, ", self.status)?;
         push_lines(text, self.output.as_slice())?;
@@ -23,7 +24,7 @@ impl Outcome {
         push_lines(text, self.errors.as_slice())
     }
 
-    /// Adds the status and what was written, beside a file of this name with these octets.
+    /// Adds the status, the output and the errors, with the name of a file in place of these octets of it.
     pub(crate) fn write_beside(
         &self,
         name: &str,
@@ -36,14 +37,15 @@ impl Outcome {
         push_named(text, self.errors.as_slice(), name, octets)
     }
 
-    /// Whether another run came to the same.
+    /// Whether another run had the same outcome.
     pub(crate) fn is_like(&self, other: &Outcome) -> bool {
         self.status == other.status
             && self.output.as_slice() == other.output.as_slice()
             && self.errors.as_slice() == other.errors.as_slice()
     }
 
-    /// Whether the run ended early: with status 1, a front of what a whole run writes, and this line about the fault.
+    /// Whether the run ended early: with status 1, a prefix of the output of a whole run, and this line about the
+    /// fault.
     pub(crate) fn ended_early(&self, whole: &Outcome, fault: &str) -> bool {
         self.status == 1
             && whole.output.as_slice().starts_with(self.output.as_slice())
@@ -60,7 +62,7 @@ fn push_named(text: &mut String, written: &[u8], name: &str, octets: &[u8]) -> a
     Ok(())
 }
 
-/// Adds the lines of what was written, or `-` if nothing was.
+/// Adds the lines of an output, or `-` if it has no octets.
 fn push_lines(text: &mut String, octets: &[u8]) -> anyhow::Result<()> {
     let written = std::str::from_utf8(octets)?;
     if written.is_empty() {

@@ -12,10 +12,10 @@ use std::fs;
 use std::io::Read;
 use std::rt::Files;
 
-/// What answers the cases.
+/// Answers the cases.
 #[derive(Drop)]
 pub(crate) struct Runs<'a, H> {
-    /// What opens the files.
+    /// The capability to open files.
     pub(crate) rt: &'a H,
 }
 
@@ -27,7 +27,7 @@ impl<H: Files + AllocGlobal> Answers for Runs<'_, H> {
     }
 }
 
-/// Adds what a case gives.
+/// Adds the answer to a case.
 fn write_answer<H: Files + AllocGlobal>(
     rt: &H,
     asked: &Asked<'_>,
@@ -45,7 +45,7 @@ fn write_answer<H: Files + AllocGlobal>(
     }
 }
 
-/// What a run comes to.
+/// The outcome of a run with this input and these limits.
 fn outcome<H: Files + AllocGlobal, R: Read + Drop>(
     rt: &H,
     line: &CommandLine,
@@ -62,7 +62,7 @@ fn outcome<H: Files + AllocGlobal, R: Read + Drop>(
     }
 }
 
-/// Adds what a run comes to, beside a file.
+/// Adds the outcome of a run that is compared with a file.
 fn write_beside<H: Files + AllocGlobal>(
     rt: &H,
     line: &CommandLine,
@@ -75,7 +75,7 @@ fn write_beside<H: Files + AllocGlobal>(
     outcome.write_beside(file, octets.as_slice(), out)
 }
 
-/// What a run comes to whose lines are read one at a time, and what was flushed before each of them.
+/// The outcome of a run whose lines are read one at a time. Notes how many lines were flushed before each of them.
 fn paced_outcome<H: Files + AllocGlobal>(
     rt: &H,
     line: &CommandLine,
@@ -93,7 +93,7 @@ fn paced_outcome<H: Files + AllocGlobal>(
     }
 }
 
-/// Adds what a run comes to whose lines are read one at a time, and what was flushed before each of them.
+/// Adds the outcome of a run whose lines are read one at a time, and how many lines were flushed before each of them.
 fn write_paced<H: Files + AllocGlobal>(
     rt: &H,
     line: &CommandLine,
@@ -109,7 +109,7 @@ fn write_paced<H: Files + AllocGlobal>(
 }
 
 impl Device {
-    /// The line that reports its failure.
+    /// The line that reports a failure of this device.
     fn fault(self) -> &'static str {
         match self {
             Device::Input => "input: cannot be read\n",
@@ -118,7 +118,7 @@ impl Device {
     }
 }
 
-/// What a run comes to if a device fails after so many octets.
+/// The outcome of a run if a device fails after this number of octets.
 fn failed_outcome<H: Files + AllocGlobal>(
     rt: &H,
     line: &CommandLine,
@@ -137,7 +137,7 @@ fn failed_outcome<H: Files + AllocGlobal>(
     outcome(rt, line, input, limits)
 }
 
-/// How many runs end early if the device fails after no octet, one, two, ..
+/// The number of runs that end early, as the device fails after no octet, one, two, and so on.
 fn early_ends<H: Files + AllocGlobal>(
     rt: &H,
     line: &CommandLine,
@@ -153,7 +153,7 @@ fn early_ends<H: Files + AllocGlobal>(
     usize::MAX
 }
 
-/// Adds how many runs end early, and what the first comes to that doesn't.
+/// Adds how many runs end early, and the outcome of the first one that doesn't.
 fn write_failing<H: Files + AllocGlobal>(
     rt: &H,
     line: &CommandLine,
@@ -166,7 +166,7 @@ fn write_failing<H: Files + AllocGlobal>(
     failed_outcome(rt, line, device, ends).write(out)
 }
 
-/// What the run with the first octets of the message comes to.
+/// The outcome of the run with the first octets of the message.
 fn front_outcome<H: Files + AllocGlobal>(
     rt: &H,
     line: &CommandLine,
@@ -181,7 +181,7 @@ fn front_outcome<H: Files + AllocGlobal>(
     Ok(outcome(rt, line, front.as_slice(), Limits::NONE))
 }
 
-/// How many fronts come to the same, one after the other.
+/// How many runs with prefixes of the message have this outcome, before one that doesn't.
 fn like_fronts<H: Files + AllocGlobal>(
     rt: &H,
     line: &CommandLine,
@@ -199,7 +199,7 @@ fn like_fronts<H: Files + AllocGlobal>(
     Ok(count)
 }
 
-/// Adds how many fronts come to the same, and what.
+/// Adds how many runs with prefixes of the message have the same outcome, and that outcome.
 fn write_fronts<H: Files + AllocGlobal>(
     rt: &H,
     line: &CommandLine,

@@ -2,7 +2,7 @@
 //! frames sent before the next one.
 //!
 //! The layer is handed the records, the names of application contexts, the tag of the run, a moment, a reader and a
-//! writer, and asks the system for nothing but memory.
+//! writer, and asks the system only for memory.
 //!
 //! * [`ask_with_tag`] answers the lines of a reader: it reads its lines with `fp_streams::follow_lines`. [`ask`] does
 //!   so in a run without a tag.
@@ -14,7 +14,7 @@
 //!
 //! The layer above may rely on this: the frames sent are those of `post` and `tick` of `specs/Solo.antt`, a definition
 //! over a plain list of dialogues and the serials that may be given to the next ones. It knows no waiting entry, no
-//! turn and no position. The text that [`ask_with_tag`] writes is the one of `specs/Lines.antt` for the lines of its
+//! turn and no position. The text that [`ask_with_tag`] writes is defined in `specs/Lines.antt` for the lines of its
 //! input, one after another. `specs/Asked.antt` states which reads were made, one by one. A session's clauses hold for
 //! every list that describes it before (`specs/Tied.antt`), and say that the list still describes it after; at the
 //! beginning the empty list does. After an error no clause speaks of a session.

@@ -13,7 +13,7 @@ use fp_tids::LocalIds;
 use std::alloc::{AllocError, Global};
 use std::marker::Model;
 
-/// A link on which no entry and no frame waits, until memory runs out. Contracts see its book, or none from then on.
+/// A link on which no entry and no frame waits between two calls. Contracts see its book, or none once memory ran out.
 #[derive(Drop)]
 pub(crate) struct Link {
     session: Option<Session>,

@@ -223,8 +223,8 @@ fn counts_of_abort(contents: &[u8]) -> FrameCounts
     counts_of_reason(reason)
 }
 
-/// What a frame counts that was sent. A frame of the service counts as its request does, and one with an Abort of the
-/// provider as its cause. Of other octets nothing is said. No memory is taken.
+/// The counts of a sent frame: the counts of its request, or, for an Abort of the provider, of its cause. For other
+/// octets the counts aren't specified. Takes no memory.
 pub fn frame_counts(frame: &[u8]) -> FrameCounts
     // A frame of a request (Q.773, 4.2), whatever the identifiers of its dialogue are.
     ensures request { (request : Request) (local : ℕ) (peer : List ℕ) → IsTid peer → length frame.now < 65536

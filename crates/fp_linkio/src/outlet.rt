@@ -6,7 +6,7 @@ ghost use Rattle.fp_linkio.specs.Calls.{OutletCall, picks, reports_sent, reports
 
 use fp_book::Parcel;
 
-/// Has the parcels of a link, and gets a report on each.
+/// The source of a link's parcels, to which each parcel is reported as sent or unsent.
 pub trait Outlet {
     // The calls so far, in their order, if the outlet reports them.
     ghost calls: { Self → Option (List OutletCall) } = { λ _. None };

@@ -25,7 +25,7 @@ pub struct MadeText {
     // The lines after `lines`.
     exchanged: ExchangedLines,
     text: Vec<u8>,
-    // How many lines got their text so far, or the greatest number.
+    // How many lines got their text so far. Saturates.
     line_count: u64,
 }
 
@@ -100,7 +100,7 @@ impl MadeText {
     /// is up. At 100 calls a second, of five lines each, a device that takes nothing fills them in five minutes.
     pub const MOST: usize = 6 << 20;
 
-    /// No line, and no text. There is room for all that may wait, so that no memory is needed while calls are served.
+    /// No lines and no text. Reserves memory for all that may wait, so that none is needed while calls are served.
     pub fn new(alloc: Global) -> Result<MadeText, AllocError>
         ensures { IfOk result (λ made. made ≡ no_text) }
     {

@@ -8,9 +8,9 @@ use http::{HeaderValue, StatusCode};
 /// The health of a run.
 #[derive(Clone, Copy, Debug, PartialEq, Eq)]
 pub struct Health {
-    /// The clocks of its links and the thread that writes its log move.
+    /// Whether the clocks of the run's links and the thread that writes its log move.
     pub is_live: bool,
-    /// A link is up, a node is connected, if the run is one, and the run isn't about to end.
+    /// Whether a link is up, the node is connected (if the run is a node), and the run isn't about to end.
     pub is_ready: bool,
 }
 

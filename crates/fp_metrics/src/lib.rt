@@ -1,7 +1,7 @@
 //! The answers of a run to an operator's tools over HTTP: its numbers in the text format of Prometheus, and its health.
 //!
 //! The layer is handed the counters of each link and the health of the run, and gives texts and answers. It asks the
-//! system for nothing but memory. The caller moves the octets of a connection.
+//! system only for memory. The caller moves the octets of a connection.
 //!
 //! * [`metrics_text`]: the numbers of a run and its links, as a text.
 //! * [`number_text`]: the counters of a called number, as a text.

@@ -16,7 +16,7 @@ pub struct LinkNumbers {
     pub link: u8,
     /// The current values.
     pub gauges: Gauges,
-    /// The numbers of its counters.
+    /// The numbers of the link's counters.
     pub counters: Counters,
 }
 
@@ -31,9 +31,10 @@ pub struct RunNumbers<'a> {
     pub records: &'a str,
     /// How often the records were replaced.
     pub reloads: u64,
-    /// From the read of a message to the write of its answer, of a sample.
+    /// The times from reading a message to writing its answer, for a sample of messages.
     pub answer_times: Histogram,
-    /// The numbers of its links, each link once: Prometheus refuses a text that has two lines of one name and link.
+    /// The numbers of the run's links, each link once: Prometheus refuses a text that has two lines of one name and
+    /// link.
     pub links: &'a [LinkNumbers],
 }
 

@@ -5,7 +5,7 @@
 //! example, `0 T 1 0 2`: on link 0 a turn of the dialogue with birth 1 was taken, from position 0, with two entries.
 //! The layer is handed lines as `fp_book` has them and returns their text, or is handed the text of a line and returns
 //! the line. For a replay it is handed the tables of records, the names of application contexts, a reader and a writer.
-//! It knows no file, and asks the system for nothing but memory.
+//! It knows no file, and asks the system only for memory.
 //!
 //! * [`write_line`] appends a line and a line feed to a text.
 //! * [`read_line`] returns the line of such a text.

@@ -73,7 +73,7 @@ impl Links {
         Ok(())
     }
 
-    /// Replays the step of a line on its link, by the tables that the run has of these, and compares the resulting
+    /// Replays the step of a line on its link, with the tables among these that the run has, and compares the resulting
     /// line. A line that gives or puts back a turn that isn't out has no step, and disagrees.
     fn make_again(
         &mut self,

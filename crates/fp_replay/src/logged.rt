@@ -24,7 +24,7 @@ pub(crate) fn is_gap(line: &LoggedStep) -> bool
     }
 }
 
-/// Whether the table that a line's message was read by is in this list.
+/// Whether this list has the table that a line's message was read with.
 pub(crate) fn has_table(tables: &[Table], line: &LoggedStep) -> bool
     ensures { IsTrue result ↔ HasTable tables.now line.now }
 {

@@ -54,7 +54,7 @@ pub(crate) fn write_post(
     write_answered(message, answer, text)
 }
 
-/// Adds the letter and the fields of a message that ran out of memory to a text.
+/// Adds the letter and the fields of a message for which memory ran out to a text.
 pub(crate) fn write_lost(
     moment: Moment,
     message: &Frame,

@@ -13,7 +13,7 @@ use thiserror::Error;
 #[derive(Clone, Copy, Debug, PartialEq, Eq, Error)]
 pub enum ReplayFault {
     /// Line N is missing (a log without a head), malformed, out of place, not ended by a line feed, or its message was
-    /// read by a table that wasn't passed in or that has a place after the last one of the run.
+    /// read with a table that wasn't passed in or that has a place after the last one of the run.
     #[error("line {0}: bad line")]
     BadLine(u128),
     /// Line N says that lines were lost, or that memory ran out for a Clock.
@@ -47,7 +47,7 @@ impl From<AllocError> for ReplayFault {
 /// Why a line isn't taken.
 #[derive(Clone, Copy, Debug, PartialEq, Eq)]
 pub(crate) enum Refusal {
-    /// A line that is malformed or out of place, or whose message was read by a table that the run doesn't have.
+    /// A line that is malformed or out of place, or whose message was read with a table that the run doesn't have.
     BadLine,
     /// A line that says that lines were lost, or that memory ran out for a Clock.
     Gap,

@@ -27,7 +27,7 @@ const MOST_OCTETS: usize = 8300;
 /// [`write_line`](crate::write_line) writes them: at most 8,300 octets and a line feed. A step is replayed on the run
 /// of its link, and its line there is compared with this one. The local transaction identifiers of these runs have the
 /// tag of the head, 0 if it has none. You pass the tables and the names that the log was written with: a message is
-/// read by the table in the place that its line has, 0 to 65,535 if the head has a tag and else 0 to 999. At most
+/// read with the table in the place that its line gives, 0 to 65,535 if the head has a tag and else 0 to 999. At most
 /// `most_reads` reads are made, of up to 4,096 octets each. One line is held at a time; no clause says this.
 ///
 /// Each line is checked in this order: whether it is bad (also if its table wasn't passed in or has a later place),
@@ -73,7 +73,7 @@ pub fn replay<R: LinkRead, W: LinkWrite>(
     }
 }
 
-/// The links of a log, and the tables and names that its lines are replayed by. You must spend the links.
+/// The links of a log, and the tables and names that its lines are replayed with. You must spend the links.
 pub(crate) struct Replaying<'a> {
     alloc: Global,
     tables: &'a [Table],

@@ -61,8 +61,7 @@ fn one_more(count: u64, is: bool) -> u64
     if is { count.saturating_add(1) } else { count }
 }
 
-/// The totals after one more output, given the dialogue whose parcel was out. A sum above the greatest number is
-/// replaced by that.
+/// The totals after one more output, given the dialogue whose parcel was out. Sums saturate.
 fn with_output(totals: Totals, output: &Output, out: Option<u32>) -> Totals
     ensures { result ≡ capped_totals (plus totals (added_by output.now out)) }
 {
@@ -79,7 +78,7 @@ fn with_output(totals: Totals, output: &Output, out: Option<u32>) -> Totals
 }
 
 /// The totals of these outputs: the components that were accepted, the entries that were served, and the frames of
-/// dialogues that were sent. A sum above the greatest number is replaced by that; no run has one. Takes no memory.
+/// dialogues that were sent. Sums saturate at 2^64 - 1, which no run reaches. Takes no memory.
 pub fn totals(outputs: &[Output]) -> Totals
     ensures of_runs { (tables : List Contents) (contexts : List (List ℕ)) (base : ℕ) (steps : List Step)
         → Runs tables contexts base steps outputs.now → result ≡ totals_of outputs.now }

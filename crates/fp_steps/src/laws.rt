@@ -26,7 +26,7 @@ pub fn answers_are_one()
     prepared_is_one();
 }
 
-/// After each history that leads to a book each step has an answer, whatever its message is prepared to; by
+/// After each history that leads to a book, each step has an answer, whatever the preparation of its message gives; by
 /// [`answers_are_one`] it has no other. This law doesn't say that every frame is prepared: `Prepared::read` of
 /// `fp_entry` prepares it, unless memory runs out.
 pub fn every_step_has_an_answer()

@@ -1,12 +1,11 @@
 //! Whole runs of a link: every list of steps, in any order.
 //!
 //! The layer is handed tables of records, the names of the application contexts, the link and the steps, and asks the
-//! system for nothing but memory. [`run`] makes the steps on a new [`Book`](fp_book::Book), and keeps the turns and the
-//! parcel that are out ([`run_with_tag`]: in a run with a tag, which is part of each identifier). Its contract speaks
-//! only of the steps and their outputs: of their history, the newest first (`specs/History.antt`), of the dialogues by
-//! their births (`specs/Births.antt`), and of each dialogue's entries and frames: accepted, served
-//! (`specs/Accepted.antt`), requested and sent (`specs/Sending.antt`). `specs/Headline.antt` states the facts that hold
-//! at each moment.
+//! system only for memory. [`run`] makes the steps on a new [`Book`](fp_book::Book), and keeps the turns and the parcel
+//! that are out ([`run_with_tag`]: in a run with a tag, which is part of each identifier). Its contract speaks only of
+//! the steps and their outputs: of their history, the newest first (`specs/History.antt`), of the dialogues by their
+//! births (`specs/Births.antt`), and of each dialogue's entries and frames: accepted, served (`specs/Accepted.antt`),
+//! requested and sent (`specs/Sending.antt`). `specs/Headline.antt` states the facts that hold at each moment.
 //!
 //! Each output is the answer that the history before its step determines (`specs/Answers.antt`): by the rules for
 //! messages (`specs/Messages.antt`), by the turns that are out and the dialogues that are ready (`specs/Turns.antt`),

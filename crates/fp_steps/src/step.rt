@@ -8,8 +8,8 @@ use fp_frames::Frame;
 pub enum Step {
     /// A message arrives.
     Post {
-        /// The place of the table that it is read by, 0 to 65,535, among the tables of the run. Without a table there
-        /// the step is impossible.
+        /// The place of the table that the message is read with, 0 to 65,535, among the tables of the run. If there is
+        /// no table in that place, the step is impossible.
         table: usize,
         /// The message, without its head.
         frame: Frame,

@@ -26,8 +26,8 @@ pub(crate) struct Console<'a, H, E> {
 }
 
 impl<H: Files + AllocGlobal + Wait + Clock, E: Write> Console<'_, H, E> {
-    /// Writes a line in one piece, so that no event gets between its parts; without memory for it, `out of memory`.
-    /// Text that can't be written is left out.
+    /// Writes a line in one piece, so that no event gets between its parts. If memory runs out for it, writes `out of
+    /// memory` instead. Text that can't be written is left out.
     fn say<D: fmt::Display + Drop>(&mut self, text: D) {
         let _ = match format!(in self.rt.alloc(); "{text}\n") {
             Ok(line) => self.errors.write_all(line.as_bytes()),

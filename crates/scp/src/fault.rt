@@ -34,7 +34,8 @@ pub enum RunFault {
     /// A fault while the log was replayed.
     #[error("{0}")]
     Replay(ReplayFault),
-    /// The records were read again, and don't replace the ones before: the run takes no more tables, or memory ran out.
+    /// The records were read again, but don't replace the earlier ones: the run takes no more tables, or memory ran
+    /// out.
     #[error("reload: refused")]
     RefusedReload,
     /// A fault while the links were served.

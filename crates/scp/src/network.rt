@@ -49,7 +49,7 @@ impl NetworkWords<'_> {
         Ok(Some(NetworkAsked {
             own,
             exchange,
-            // The text of an address isn't longer than a name.
+            // The text of an address fits into a name.
             peer: PeerName::from(self.exchange).unwrap_or_default(),
             units,
         }))
@@ -87,8 +87,8 @@ pub(crate) fn has_subsystem(address: &Address) -> bool {
     subsystem_of(address.as_slice()).is_some()
 }
 
-/// The names of units in a text, with commas between them, 1 to 8, no two of them the same. `Ok(None)` if it is no such
-/// list.
+/// The names of units in a text, with commas between them, 1 to 8, no two of them the same. `Ok(None)` if the text
+/// isn't such a list.
 pub(crate) fn units_in(alloc: Global, text: &str) -> Result<Option<Vec<UnitName>>, AllocError> {
     let mut names = Vec::new(alloc);
     for piece in text.split(',') {
