@@ -21,8 +21,8 @@ pub struct Setting {
     pub own: Address,
     /// The address of the exchange. Messages are sent to it, and messages from it are taken.
     pub exchange: Address,
-    /// The number of units, each with at most one connection. A lower unit is preferred for sending: the node's own
-    /// unit is the first, then the one that several nodes share.
+    /// The number of units, each with at most one connection. The connection of the lowest unit is used for sending.
+    /// The node's own units have the lowest numbers, and the unit that several nodes share has the last one.
     pub units: usize,
 }
 

@@ -21,7 +21,7 @@ const RESULT: u16 = 2;
 /// The number of the context tag of a result's source and diagnostic.
 const RESULT_SOURCE_DIAGNOSTIC: u16 = 3;
 
-/// Puts an integer of one octet before the octets.
+/// Puts an integer of one octet before the octets in the writer.
 fn write_integer(octet: u8, out: &mut Writer) -> Result<(), AllocError>
     ensures ok { OnOk result (out.new ≡ canon (integer octet) ++ out.old) }
     ensures stays { EndsWith out.new out.old }
@@ -29,7 +29,7 @@ fn write_integer(octet: u8, out: &mut Writer) -> Result<(), AllocError>
     out.put_primitive(Class::Universal, INTEGER, &[octet])
 }
 
-/// Puts the result of a verdict before the octets.
+/// Puts the result of a verdict before the octets in the writer.
 fn write_result(verdict: Verdict, out: &mut Writer) -> Result<(), AllocError>
     ensures ok { OnOk result (out.new ≡ canon (constructed classes.Context 2
         (more (integer (associate_result verdict)) none)) ++ out.old) }
@@ -40,7 +40,7 @@ fn write_result(verdict: Verdict, out: &mut Writer) -> Result<(), AllocError>
     out.put_constructed(Class::Context, RESULT, behind)
 }
 
-/// Puts the diagnostic of a verdict, in the tag of its source, before the octets.
+/// Puts the diagnostic of a verdict, in the tag of its source, before the octets in the writer.
 fn write_source(verdict: Verdict, out: &mut Writer) -> Result<(), AllocError>
     ensures ok { OnOk result (out.new ≡ canon (constructed classes.Context (source verdict)
         (more (integer (diagnostic verdict)) none)) ++ out.old) }
@@ -51,7 +51,7 @@ fn write_source(verdict: Verdict, out: &mut Writer) -> Result<(), AllocError>
     out.put_constructed(Class::Context, verdict.source(), behind)
 }
 
-/// Puts the result's source and diagnostic of a verdict before the octets.
+/// Puts the result source and diagnostic of a verdict before the octets in the writer.
 fn write_diagnostic(verdict: Verdict, out: &mut Writer) -> Result<(), AllocError>
     ensures ok { OnOk result (out.new ≡ canon (constructed classes.Context 3
         (more (constructed classes.Context (source verdict) (more (integer (diagnostic verdict)) none))
@@ -63,7 +63,7 @@ fn write_diagnostic(verdict: Verdict, out: &mut Writer) -> Result<(), AllocError
     out.put_constructed(Class::Context, RESULT_SOURCE_DIAGNOSTIC, behind)
 }
 
-/// Puts the AARE of a verdict, with this application context name, before the octets.
+/// Puts the AARE of a verdict, with this application context name, before the octets in the writer.
 fn write_apdu(name: &[u8], verdict: Verdict, out: &mut Writer) -> Result<(), AllocError>
     ensures ok { OnOk result (out.new ≡ canon (aare name.now verdict) ++ out.old) }
     ensures stays { EndsWith out.new out.old }
@@ -76,9 +76,9 @@ fn write_apdu(name: &[u8], verdict: Verdict, out: &mut Writer) -> Result<(), All
     out.put_constructed(Class::Application, AARE, behind)
 }
 
-/// Puts the dialogue portion that answers a request for a dialogue before the octets: an AARE of version 1 with the
-/// name of the request and this verdict. It has 37 octets and the octets of the name. If memory runs out, the octets
-/// are unchanged.
+/// Puts the dialogue portion that answers a request for a dialogue before the octets in the writer: an AARE of version
+/// 1 with the name of the request and this verdict. Its length is 37 octets plus the length of the name. If memory runs
+/// out, the octets are unchanged.
 pub fn write_aare(name: &Name, verdict: Verdict, out: &mut Writer) -> Result<(), AllocError>
     ensures ok { OnOk result (out.new ≡ canon (dialogue_portion (aare name.now verdict)) ++ out.old) }
     ensures err { OnErr result (out.new ≡ out.old) }

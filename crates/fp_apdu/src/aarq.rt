@@ -19,7 +19,7 @@ const USER_INFORMATION: u16 = 30;
 /// The fields of an AARQ.
 #[derive(Clone, Copy)]
 pub(crate) struct Aarq {
-    /// Whether it offers version 1: by its protocol version, or because it has none.
+    /// Whether the AARQ offers version 1: by its protocol version, or because it has none.
     pub(crate) offers_version_1: bool,
     /// The application context name.
     pub(crate) name: Name,

@@ -18,7 +18,7 @@ const ABORT_SOURCE: u16 = 0;
 /// The source of an abort by the dialogue service user.
 const DIALOGUE_SERVICE_USER: u8 = 0;
 
-/// Puts the ABRT of an abort by the dialogue service user before the octets.
+/// Puts the ABRT of an abort by the dialogue service user before the octets in the writer.
 fn write_apdu(out: &mut Writer) -> Result<(), AllocError>
     ensures ok { OnOk result (out.new ≡ canon abrt ++ out.old) }
     ensures stays { EndsWith out.new out.old }
@@ -28,8 +28,8 @@ fn write_apdu(out: &mut Writer) -> Result<(), AllocError>
     out.put_constructed(Class::Application, ABRT, behind)
 }
 
-/// Puts the dialogue portion of an abort by the dialogue service user, an ABRT, before the octets. It has 20 octets. If
-/// memory runs out, the octets are unchanged.
+/// Puts the dialogue portion of an abort by the dialogue service user, an ABRT, before the octets in the writer. It has
+/// 20 octets. If memory runs out, the octets are unchanged.
 pub fn write_abrt(out: &mut Writer) -> Result<(), AllocError>
     ensures ok { OnOk result (out.new ≡ canon (dialogue_portion abrt) ++ out.old) }
     ensures err { OnErr result (out.new ≡ out.old) }

@@ -23,7 +23,7 @@ pub(crate) fn read<'a>(element: &ElementRef<'a>) -> Option<&'a [u8]>
     element.octets_with_tag(Class::Context, PROTOCOL_VERSION)
 }
 
-/// Puts the protocol version of version 1 alone before the octets.
+/// Puts the protocol version of version 1 alone before the octets in the writer.
 pub(crate) fn write(out: &mut Writer) -> Result<(), AllocError>
     ensures ok { OnOk result (out.new ≡ canon (protocol_version version_1) ++ out.old) }
     ensures stays { EndsWith out.new out.old }

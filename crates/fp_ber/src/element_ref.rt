@@ -1,4 +1,4 @@
-//! Borrowed elements: in memory of their own, or as nodes.
+//! References to elements: to owned ones, or to nodes.
 
 ghost use Rattle.std.specs.Prelude.{◌≡◌, ◌<◌, MatchOption, List, ℕ, length};
 ghost use Rattle.fp_ber.specs.Lent.{lent_tree, lent_trees};
@@ -19,7 +19,7 @@ pub enum ElementRef<'a> {
     Node {
         /// The node.
         node: &'a Node<'a>,
-        /// The nodes of the elements in it.
+        /// The nodes of the elements inside it.
         below: &'a [Node<'a>],
     },
 }
@@ -38,7 +38,7 @@ pub enum Elements<'a> {
 pub struct Split<'a> {
     /// The first element.
     pub first: ElementRef<'a>,
-    /// The elements after it.
+    /// The elements after the first.
     pub rest: Elements<'a>,
 }
 

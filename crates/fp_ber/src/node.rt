@@ -7,7 +7,7 @@ use crate::element::Class;
 pub struct Node<'a> {
     /// The class of the tag.
     pub(crate) class: Class,
-    /// Whether it holds elements.
+    /// Whether the element is constructed.
     pub(crate) constructed: bool,
     /// The number of the tag.
     pub(crate) number: u16,

@@ -48,7 +48,8 @@ pub fn read_nodes<'a>(octets: &'a [u8], places: &mut [Node<'a>]) -> Result<usize
     ensures fits { IfOk result (λ used. length octets.now < 65536
         → HasLengths (nodes_tree (take used places.new)) × (length (canon (nodes_tree (take used places.new))) ≤ length octets.now)) }
 
-    // A fault is the first from left to right. The places are full only if they are fewer than one for two octets.
+    // The reported fault is the first from left to right. The places run out only if there is fewer than one for every
+    // two octets.
     ensures fault { IfErr result (Stops (FirstFault octets.now) (2 * length places.old < length octets.now)) }
 
     // The first fault is reported, unless the places are full before it.

@@ -13,8 +13,7 @@ use crate::{CalledOctets, NatureOfAddress, NoNumber, Number};
 /// The number in the contents octets of a called party number (ITU-T Q.763, 3.9). For example, `83 10 08 10 02` is the
 /// national number 80012.
 ///
-/// The second octet, the internal network number indicator and the numbering plan, isn't checked. The error is
-/// [`NoNumber`].
+/// The second octet (internal network number indicator and numbering plan) isn't checked. The error is [`NoNumber`].
 pub fn read_called(octets: &[u8]) -> Result<Number, NoNumber>
     ensures { result_ok result ≡ number_of octets.now }
 {

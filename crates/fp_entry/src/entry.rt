@@ -16,7 +16,7 @@ use std::alloc::AllocError;
 pub struct Entry {
     /// The moment of its message, or of the clock.
     pub moment: Moment,
-    /// Its kind.
+    /// The kind of the entry.
     pub kind: EntryKind,
 }
 
@@ -55,7 +55,7 @@ pub enum EntryKind {
         linked: Option<i8>,
         /// The event.
         event: Event,
-        /// Whether it is a notification. Otherwise it is a request, and the switch waits.
+        /// Whether the event is a notification. Otherwise it is a request, and the switch waits.
         notification: bool,
     },
     /// Another Invoke, or an Invoke of InitialDP or EventReportBCSM with a mistyped parameter.
@@ -71,7 +71,7 @@ pub enum EntryKind {
     Result {
         /// The invoke identifier.
         identifier: i8,
-        /// Whether it is the last.
+        /// Whether the result is the last one.
         last: bool,
     },
     /// A ReturnError.
@@ -127,14 +127,14 @@ impl EntryKind {
         }
     }
 
-    /// Whether it is a Clock.
+    /// Whether the entry is a Clock.
     pub fn is_clock(&self) -> bool
         ensures { result ≡ is_clock self.now }
     {
         matches!(self, EntryKind::Clock)
     }
 
-    /// Whether it takes one of the places for entries of its dialogue. PeerEnd, PeerAbort and Clock take none.
+    /// Whether the entry takes one of the places for entries of its dialogue. PeerEnd, PeerAbort and Clock take none.
     pub fn takes_a_place(&self) -> bool
         ensures { result ≡ takes_a_place self.now }
     {

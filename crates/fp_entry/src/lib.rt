@@ -22,7 +22,7 @@
 //!
 //! Components are taken up to the first faulty one, which is the last. Each gives the entry in the table of
 //! [`EntryKind`], at the moment of the message. For example, a Begin with one InitialDP gives an `Opened` and an
-//! `InitialDp`. A [`EntryKind::Clock`] is made by the layers above.
+//! `InitialDp`. The layers above make an [`EntryKind::Clock`].
 //!
 //! The layer above may rely on this, unless memory runs out: the result follows from the octets by
 //! `specs/Prepared.antt`, and there is no other ([`prepared_is_one`]). The entries of a message follow

@@ -145,7 +145,7 @@ fn read_long(
     ensures ok { IfOk result (Brings table.now contexts.now octets.now moment) }
     ensures err { IfErr result (IsFailure contexts.now octets.now) }
 {
-    // An element has at most one node for two octets.
+    // An element has at most one node for every two octets.
     let mut places = vec![in alloc; Node::BLANK; octets.len() / 2 + 1]?;
     read_into(
         alloc,

@@ -47,8 +47,8 @@ impl Frame {
         self.message.as_slice()
     }
 
-    /// A frame of the same message, which shares the octets and copies none. The error is the one of [`Bytes::clone`]:
-    /// the count of shares is at its limit.
+    /// A frame of the same message, which shares the octets and copies none. The error is from [`Bytes::clone`]: the
+    /// count of shares is at its limit.
     pub fn try_clone(&self) -> Result<Frame, AllocError>
         ensures { IfOk result (λ copy. copy ≡ self.now) }
     {

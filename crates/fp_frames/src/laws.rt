@@ -8,8 +8,8 @@ pub fn message_stands_behind_its_head()
     ensures length { IsFourOctetsLonger }
 {}
 
-/// A stream has at most one list of frames and one rest, however its pieces cut it. When more octets arrive, the frames
-/// stay and more may follow. A bad length in the rest stays there, and no frame can begin with it.
+/// A stream has at most one list of frames and one rest, however it is cut into pieces. When more octets arrive, the
+/// frames stay and more may follow. A bad length in the rest stays there, and no frame can begin with it.
 #[tactic(auto, using(crate::proofs::Streams::stream_laws))]
 pub fn streams_have_one_list_of_frames()
     ensures one { StreamsAreOne }

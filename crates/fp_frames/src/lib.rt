@@ -7,7 +7,7 @@
 //!
 //! * [`Frame`] is the message of a frame, as octets that may be shared.
 //! * [`frame_head`] gives the four octets before a message.
-//! * [`FrameReader`] hands out the frames of a stream, however its pieces cut them.
+//! * [`FrameReader`] hands out the frames of a stream, however it is cut into pieces.
 //!
 //! The layer above may rely on this: contracts see a [`Frame`] as the list of its octets, 1 to 4,096 of them, and a
 //! head as the length in four digits to the base 256. `framed` is a head and its message (`specs/Frame.antt`), and

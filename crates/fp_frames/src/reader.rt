@@ -9,10 +9,10 @@ use bytes::{Buf, BytesMut};
 use std::alloc::{AllocError, Global};
 use std::marker::Model;
 
-/// The octets of a head.
+/// The number of octets of a head.
 const HEAD: usize = 4;
 
-/// The frames of a stream of octets, however its pieces cut them. Contracts see the octets that were fed and not yet
+/// The frames of a stream of octets, however it is cut into pieces. Contracts see the octets that were fed and not yet
 /// handed out.
 ///
 /// [`FrameReader::feed`] copies the octets. It copies a begun frame once more if there is no room after it. A frame
@@ -49,7 +49,7 @@ impl FrameReader {
         self.octets.extend_from_slice(piece)
     }
 
-    /// Whether all that was fed was handed out.
+    /// Whether no octet that was fed is left: all were handed out.
     pub fn is_empty(&self) -> bool
         ensures { result ≡ (length self.now == 0) }
     {

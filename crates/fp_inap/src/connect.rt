@@ -17,8 +17,8 @@ use std::alloc::AllocError;
 /// The number of the context tag of destinationRoutingAddress.
 const DESTINATION_ROUTING_ADDRESS: u16 = 0;
 
-/// Puts the argument of Connect (after ITU-T Q.1218) before the octets. You must pass a destination of 1 to 15 digits,
-/// each 0 to 9.
+/// Puts the argument of Connect (after ITU-T Q.1218) before the octets in the writer. You must pass a destination of 1
+/// to 15 digits, each 0 to 9.
 ///
 /// The argument is a sequence with only destinationRoutingAddress, tag 0, and in it one called party number, as
 /// [`write_called`] writes it. For example, 80012 gives `30 09 A0 07 04 05 83 10 08 10 02`. If memory runs out, the

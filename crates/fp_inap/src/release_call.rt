@@ -10,8 +10,9 @@ use fp_ber::{Class, Writer};
 use fp_digits::{Cause, cause};
 use std::alloc::AllocError;
 
-/// Puts the argument of ReleaseCall (after ITU-T Q.1218) with this cause before the octets: an octet string with the
-/// octets of Q.763, 3.12. For example, user busy is `04 02 82 91`. If memory runs out, the octets are unchanged.
+/// Puts the argument of ReleaseCall (after ITU-T Q.1218) with this cause before the octets in the writer: an octet
+/// string with the octets of Q.763, 3.12. For example, user busy is `04 02 82 91`. If memory runs out, the octets are
+/// unchanged.
 pub fn write_release(value: Cause, out: &mut Writer) -> Result<(), AllocError>
     ensures ok { OnOk result (out.new ≡ canon (release_call value) ++ out.old) }
     ensures err { OnErr result (out.new ≡ out.old) }

@@ -25,9 +25,9 @@ const REQUEST_REPORT: [u8; 69] = [
     0x30, 11, 0x80, 1, 10, 0x81, 1, 1, 0xA2, 3, 0x80, 1, 1,
 ];
 
-/// Puts the argument of RequestReportBCSMEvent (after ITU-T Q.1218) to follow a call before the octets: events 4, 5 and
-/// 6 interrupt the call at leg 2; 7 at leg 2 and 10 at leg 1 are notified. If memory runs out, the octets are
-/// unchanged.
+/// Puts the argument of RequestReportBCSMEvent (after ITU-T Q.1218) to follow a call before the octets in the writer:
+/// events 4, 5 and 6 interrupt the call at leg 2; 7 at leg 2 and 10 at leg 1 are notified. If memory runs out, the
+/// octets are unchanged.
 pub fn write_request_report(out: &mut Writer) -> Result<(), AllocError>
     ensures ok { OnOk result (out.new ≡ canon request_report ++ out.old) }
     ensures err { OnErr result (out.new ≡ out.old) }

@@ -30,7 +30,7 @@ pub enum Action {
     Acknowledge,
     /// The connection is active from now on.
     Activate,
-    /// The message, one of SCCP, is handed on.
+    /// The SCCP message is handed on.
     Deliver,
     /// The connection is closed.
     Close,

@@ -2,7 +2,7 @@
 
 ghost use Rattle.fp_ipa.specs.Laws.{ActiveWasNamed, BadIsNoMessage, BadStaysBad, MessagesGoOn, StreamsAreOne, UnitNamesAreOne};
 
-/// A stream has at most one list of messages and one rest, however its reads cut it. When more octets arrive, the
+/// A stream has at most one list of messages and one rest, however the reads divide it. When more octets arrive, the
 /// messages stay and more may follow. A message that is too long stays so, and no further one is handed out.
 #[tactic(auto, using(crate::proofs::Streams::stream_laws))]
 pub fn streams_have_one_list_of_messages()

@@ -1,9 +1,9 @@
 //! The messages of IPA, which transfer points use to carry SCCP over TCP (SCCPlite, as in Osmocom's programs), and the
 //! management of such a connection (CCM). No Recommendation has them.
 //!
-//! This layer takes messages out of the octets of a connection, however the reads cut them. It also takes a message and
-//! a state to the next state and an action. It asks the system only for the memory of the octets, and knows nothing of
-//! SCCP.
+//! This layer takes messages out of the octets of a connection, however the reads divide them. It also takes a message
+//! and a state to the next state and an action. It asks the system only for the memory of the octets, and knows nothing
+//! of SCCP.
 //!
 //! * [`IpaReader`] hands out the messages of a stream, each an [`IpaMessage`]: a [`StreamIdentifier`] and octets.
 //!   [`message_head`] gives the three octets before a message.
@@ -25,9 +25,9 @@
 //! The layer above may rely on this: a stream is its messages, one after another, and a rest that begins with no whole
 //! message (`specs/Stream.antt`). The messages that an [`IpaReader`] hands out, followed by the octets that it keeps,
 //! are the octets that it held. [`streams_have_one_list_of_messages`] says that there is no other way to take them
-//! apart. If the reader waits for more, the rest has less than [`IpaMessage::MOST`] octets and a head. A unit name is
-//! the first one of an ID_RESP (`specs/Identity.antt`), and [`unit_names_are_one`] says that there is at most one. A
-//! connection is active only after a unit was named on it and acknowledged ([`active_connections_were_named`]).
+//! apart. If the reader waits for more, the rest has fewer octets than a head and [`IpaMessage::MOST`] together. A unit
+//! name is the first one of an ID_RESP (`specs/Identity.antt`), and [`unit_names_are_one`] says that there is at most
+//! one. A connection is active only after a unit was named on it and acknowledged ([`active_connections_were_named`]).
 #![tactic(auto)]
 
 mod connection;

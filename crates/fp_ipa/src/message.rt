@@ -18,7 +18,7 @@ pub struct IpaMessage {
 
 impl IpaMessage {
     /// The most octets of a message, the same as of a frame. Real messages are shorter: connection management, a UDT,
-    /// an XUDT and a UDTS have some hundreds of octets at most.
+    /// an XUDT and a UDTS have a few hundred octets at most.
     pub const MOST: usize = 4_096;
 }
 

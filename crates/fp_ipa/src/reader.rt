@@ -12,16 +12,16 @@ use bytes::{Buf, BytesMut};
 use std::alloc::{AllocError, Global};
 use std::marker::Model;
 
-/// The octets of a head.
+/// The number of octets of a head.
 const HEAD: usize = 3;
 
-/// The messages of a stream of octets, however the reads cut it. Contracts see the octets that were fed and not yet
+/// The messages of a stream of octets, however the reads divide it. Contracts see the octets that were fed and not yet
 /// handed out.
 ///
 /// [`IpaReader::feed`] copies the octets. A message that was handed out shares this memory, and keeps the memory of its
 /// neighbours alive as long as it lives. After a message of more than [`IpaMessage::MOST`] octets the rest of the
 /// stream can't be read: each further call of [`IpaReader::next`] reports it again. After [`IpaReader::next`] returned
-/// `None`, the reader holds less than [`IpaMessage::MOST`] and three octets.
+/// `None`, the reader holds fewer octets than a head and [`IpaMessage::MOST`] together.
 #[derive(Drop)]
 pub struct IpaReader {
     octets: BytesMut,
@@ -53,7 +53,7 @@ impl IpaReader {
         self.octets.extend_from_slice(piece)
     }
 
-    /// Whether all that was fed was handed out.
+    /// Whether no octet that was fed is left: all were handed out.
     pub fn is_empty(&self) -> bool
         ensures { result ≡ (length self.now == 0) }
     {

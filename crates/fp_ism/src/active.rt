@@ -130,7 +130,7 @@ impl ActiveInvocations {
             .any(|invocation| invocation.is_test() && invocation.due <= now)
     }
 
-    /// The class of the invocation with this identifier.
+    /// The class of the active invocation with this identifier; `None` if there is none.
     pub(crate) fn class_of(&self, identifier: i8) -> Option<OperationClass>
         ensures { result ≡ class_of identifier self.now }
     {

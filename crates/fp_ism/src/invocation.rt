@@ -19,7 +19,7 @@ pub(crate) struct Invocation {
 }
 
 impl Invocation {
-    /// Whether it tests the dialogue: its operation is of class 3, like ActivityTest.
+    /// Whether the invocation tests the dialogue: its operation is of class 3, like ActivityTest.
     pub(crate) fn is_test(&self) -> bool
         ensures { result ≡ is_test self.now }
     {

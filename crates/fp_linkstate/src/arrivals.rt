@@ -20,7 +20,7 @@ use std::marker::Model;
 pub struct Reading<'x> {
     /// The allocator for the messages.
     pub alloc: Global,
-    /// The table that answers them. `None`: out of memory for it, and they are prepared as lost.
+    /// The table that the frames are read with. `None`: memory ran out for it, and the frames are prepared as lost.
     pub table: Option<&'x Table>,
     /// The accepted application context names.
     pub contexts: &'x [Name],

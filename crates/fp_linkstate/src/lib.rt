@@ -8,8 +8,8 @@
 //! # The end of a link
 //!
 //! A [`LinkEnd`] takes [`LinkEvent`]s, and returns an [`Action`] for each. The code has a function for each state, with
-//! the rows of this table in this order. The first reason is the one of the first event that has a reason, and it
-//! stays. `at + 2 s` is 2,000 milliseconds after the time of the event; `earlier` is the earlier of two times.
+//! the rows of this table in this order. The first reason belongs to the first event that has one, and it stays. `at +
+//! 2 s` is 2,000 milliseconds after the time of the event; `earlier` is the earlier of two times.
 //!
 //! | State | Event | Next state | Action |
 //! |---|---|---|---|

@@ -5,7 +5,7 @@ use fp_records::Reason;
 /// The part of a record that has a fault.
 #[derive(Clone, Copy, Debug, PartialEq, Eq)]
 pub enum Part {
-    /// The whole record: it is missing or too many, or has a wrong number of fields.
+    /// The whole record: it is missing, is one too many, or has the wrong number of fields.
     Whole,
     /// The field with this number, from 0.
     Field(usize),

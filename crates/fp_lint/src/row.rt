@@ -36,7 +36,7 @@ fn two_fields(row: &ByteRecord) -> Option<(&[u8], &[u8])>
     Some((first, second))
 }
 
-/// The fields of a record with three.
+/// The three fields of a record; `None` if it has another number of fields.
 #[tactic(auto, using(fp_records::proofs::Places::field_within, fp_records::proofs::Places::three))]
 pub(crate) fn three_fields(row: &ByteRecord) -> Option<(&[u8], &[u8], &[u8])>
     ensures { MatchOption result (length (fields_of row.now) ≢ 3) (λ fields. fields_of row.now ≡ fields.0.now ∷ fields.1.now ∷ fields.2.now ∷ []) }

@@ -12,9 +12,9 @@ use std::marker::Model;
 /// A record of a text.
 #[derive(Drop)]
 pub(crate) struct Row {
-    /// The number of its first line, from 1.
+    /// The number of the record's first line, from 1.
     pub(crate) line: usize,
-    /// Its fields.
+    /// The fields of the record.
     pub(crate) fields: ByteRecord,
 }
 
@@ -63,8 +63,8 @@ impl<'a> RowReader<'a> {
             return Ok(None);
         }
         self.has_ended = true;
-        // A text in memory has no failure of its own, records may differ in length and their fields are octets: the
-        // only error of the reader is out of memory.
+        // A read from memory can't fail, records may differ in length, and their fields are octets: so the reader's
+        // only error is out of memory.
         let Ok(found) = self.reader.read_byte_record(fields) else {
             return Err(AllocError);
         };

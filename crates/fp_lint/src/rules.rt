@@ -58,7 +58,7 @@ fn push_rule(rules: &mut Vec<WeekRule>, days: &[u8], rule: &Rule) -> Result<(), 
 /// A closed day.
 #[derive(Clone, Copy)]
 pub(crate) struct Closed<'a> {
-    /// Its line.
+    /// The line of the closed day.
     pub(crate) line: usize,
     /// The digits of the number, as in the file.
     pub(crate) number: &'a [u8],

@@ -53,7 +53,8 @@ impl<const MOST: usize> PartialEq for Octets<MOST> {
     ghost laws = { partial_equiv_from_equiv nat_list_eq_equiv };
 
     fn eq(&self, other: &Self) -> bool {
-        // `&` and not `&&`: an early exit would take the number of octets out of the same comparison.
+        // `&` and not `&&`: with an early exit the compiler couldn't fold the number of octets into the same
+        // comparison.
         same_places(&self.places, &other.places) & (self.used == other.used)
     }
 }

@@ -146,7 +146,8 @@ fn ids_in(kind: Kind, octets: &[u8]) -> Found
     }
 }
 
-/// The octets after a tag of one octet and a length.
+/// The octets after a tag of one octet, `first`, and the length at the front of `body`. `None` if the tag has further
+/// octets or there is no length.
 fn contents_of(first: u8, body: &[u8]) -> Option<&[u8]>
     ensures some { IfSome result (λ contents. (first % 32 < 31) × PassesLength body.now contents.now) }
     ensures none { IfNone result ((contents : List ℕ) → first % 32 < 31 → PassesLength body.now contents → ⊥) }

@@ -135,7 +135,7 @@ pub fn write_invoke(
 ) -> Result<(), AllocError>
     requires behind { behind ≤ length out.old }
 
-    // The Invoke lies before the last octets.
+    // The Invoke takes the place of its parameter, before the last `behind` octets.
     ensures exact { (parameter : Option Tree) (rest : List ℕ) → out.old ≡ canon_of_all (only parameter) ++ rest → length rest ≡ behind
         → OnOk result (out.new ≡ canon (component_tree (value.invoke identifier linked (code_of code.entry) parameter)) ++ rest) }
     ensures err { OnErr result (out.new ≡ out.old) }

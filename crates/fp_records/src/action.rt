@@ -24,7 +24,7 @@ pub enum Destinations {
 pub struct SplitDestinations {
     /// The first destination.
     pub first: Destination,
-    /// The others in their order; `None` if there are none.
+    /// The other destinations in their order; `None` if there are none.
     pub left: Option<Destinations>,
 }
 

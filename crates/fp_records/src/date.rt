@@ -9,7 +9,7 @@ use jiff::civil::Date;
 /// The first possible day of a moment in local time, 1969-12-31.
 const FIRST_DAY: i32 = -1;
 
-/// The last possible day of a moment in local time, 2100-01-01.
+/// The last possible day of a moment in local time, 2100-01-01, in days since 1970-01-01.
 const LAST_DAY: i32 = 47482;
 
 /// The number of the day that a text `YYYY-MM-DD` names, 0 for 1970-01-01. `None` if the calendar doesn't have this

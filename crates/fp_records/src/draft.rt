@@ -1,4 +1,4 @@
-//! The contents of a records file, before the table is made of them.
+//! The contents of a records file, from which the table is made.
 
 ghost use Rattle.std.specs.Prelude.{◌≡◌, ◌≤ℤ◌, List, ℕ, neg_ℤ, pos, IfOk};
 ghost use Rattle.fp_records.specs.File.{records_of};

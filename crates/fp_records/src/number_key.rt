@@ -18,7 +18,7 @@ const FIRST_PLACE: u64 = 1 << 56;
 const HALF: u64 = 1 << 32;
 
 /// At most 15 decimal digits in eight octets, which compare as one machine word each. Contracts see them as a list.
-/// Their order is the one of [`DecimalDigits`].
+/// They are ordered as [`DecimalDigits`] are.
 #[derive(Clone, Copy, Debug)]
 pub struct NumberKey {
     // Four bits for each of 15 places: the digit plus one, the first digit in the highest place, and 0 after the last

@@ -64,8 +64,8 @@ impl<'a> RecordReader<'a> {
             return Ok(None);
         }
         self.has_ended = true;
-        // A text in memory has no failure of its own, records may differ in length and their fields
-        // are octets: the only remaining error of the reader is out of memory.
+        // A read from memory can't fail, records may differ in length, and their fields are octets: so the reader's
+        // only error is out of memory.
         let Ok(found) = self.reader.read_byte_record(row) else {
             return Err(RecordsFault::Memory);
         };

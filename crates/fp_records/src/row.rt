@@ -17,7 +17,7 @@ pub(crate) fn begins_with(row: &ByteRecord, word: &[u8]) -> bool
     }
 }
 
-/// The fields of a record with two.
+/// The two fields of a record; `None` if it has another number of fields.
 #[tactic(auto, using(crate::proofs::Places::field_within, crate::proofs::Places::two))]
 pub(crate) fn two_fields(row: &ByteRecord) -> Option<(&[u8], &[u8])>
     ensures { MatchOption result (length (fields_of row.now) ≢ 2) (λ fields. fields_of row.now ≡ fields.0.now ∷ fields.1.now ∷ []) }

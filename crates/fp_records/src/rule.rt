@@ -19,9 +19,9 @@ pub struct Rule {
     pub days: Days,
     /// The part of these days in which it fits.
     pub window: Window,
-    /// Its share of the calls.
+    /// The rule's share of the calls.
     pub weight: Weight,
-    /// Its action for a call.
+    /// The rule's action for a call.
     pub action: Action,
 }
 

@@ -18,7 +18,7 @@ pub(crate) const HEAD: usize = 4;
 /// AARE for a name of 64 octets, an Invoke of RequestReportBCSMEvent, and an Invoke of Connect to 15 digits.
 ///
 /// A message of MTP has room for 272 octets. A unitdata message (UDT) of SCCP (ITU-T Q.713, 4.10) with two addresses of
-/// 18 octets fits in, if its data has at most 224 octets. So each message fits.
+/// 18 octets fits if its data has at most 224 octets. So each message fits.
 pub const MOST_OCTETS: usize = 223;
 
 /// The frame of a request (Q.773, 4.2): a head and the message in canonical spelling.

@@ -105,11 +105,11 @@ fn write_message(
     }
 }
 
-/// The number of octets for which a reply has room at first. Most replies are shorter; the room grows for others. Rooms
-/// of this size are handed out and freed cheaply by the allocator (those of up to 120 octets by glibc).
+/// The initial capacity of a reply, in octets. Most replies are shorter, and the buffer grows for longer ones. The
+/// allocator hands out and frees buffers of this size cheaply (glibc: up to 120 octets).
 const ROOM: usize = 112;
 
-/// The octets of a request's message, with room for the head of a frame in most.
+/// The octets of a request's message. Most fit the initial capacity together with the head of a frame.
 pub(crate) fn reply_to(
     alloc: Global,
     request: &Request,

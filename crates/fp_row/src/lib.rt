@@ -4,7 +4,7 @@
 //! The layer is handed entries, moments, served turns and reports of sent frames, and gives the state of the dialogue.
 //! Entries are served in one of two ways, with the same result: you take a [`Turn`] out, serve it on any thread and
 //! give its [`Done`] back; or [`Row::serve_next`] does all three in the row, without a copy of the entries. It asks the
-//! system for nothing but memory.
+//! system only for memory.
 //!
 //! * [`Row`] is one dialogue: all entries that it accepted, in order, how many of them were served, and how many are
 //!   out as a turn; its core after those that were served; how many of its requests were accepted for

@@ -40,15 +40,15 @@ pub struct Row {
     pub(crate) accepted: Entries,
     // How many of them were served.
     pub(crate) served: usize,
-    // The core after those.
+    // The core after the served entries.
     pub(crate) core: Core,
-    // How many of its requests were accepted for sending.
+    // How many requests of the dialogue were accepted for sending.
     pub(crate) queued: usize,
     // How many of those are still to be sent, or were sent.
     pub(crate) kept: usize,
     // How many were sent.
     pub(crate) sent: usize,
-    // How many of the entries that weren't served are out as a turn: the next ones.
+    // How many of the unserved entries are out as a turn. They are the first of these.
     pub(crate) out: usize,
     pub(crate) ended: Option<Ending>,
 
@@ -263,9 +263,9 @@ impl Row {
         Turn::MOST_ENTRIES.min(waiting.min(free))
     }
 
-    /// Hands out the turn of the next entries: as many as wait and as there are `free` places for, at most
-    /// [`Turn::MOST_ENTRIES`]. `None` exactly if the dialogue isn't ready. Then, and if memory runs out for a copy of
-    /// the entries and of the core, nothing changes. A row hands out one turn at a time.
+    /// Hands out the turn of the next waiting entries: at most `free` of them, since each needs a place for a frame,
+    /// and at most [`Turn::MOST_ENTRIES`]. `None` exactly if the dialogue isn't ready. Then, and if memory runs out for
+    /// a copy of the entries and of the core, nothing changes. A row hands out one turn at a time.
     pub fn take(&mut self, alloc: Global, free: usize) -> Result<Option<Turn>, AllocError>
         requires { 0 < free }
         ensures ok { IfOk result (λ taken. Takes free self.old taken self.new) }

@@ -1,4 +1,4 @@
-//! Messages to read.
+//! Reading a message of any type.
 
 ghost use Rattle.std.specs.Prelude.{IfErr, IfOk};
 ghost use Rattle.fp_sccp.specs.Fault.{IsFault};

@@ -15,7 +15,7 @@ pub enum ReturnCause {
     SubsystemCongestion,
     /// 3: the subsystem failed.
     SubsystemFailure,
-    /// 4: no such subsystem is there.
+    /// 4: the node has no such subsystem.
     UnequippedUser,
     /// 5: the message transfer part failed.
     MtpFailure,

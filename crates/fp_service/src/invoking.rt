@@ -61,7 +61,7 @@ impl Core {
                 self.invocations = invocations;
                 self.continue_with(Components::two(first, second))
             }
-            // The first one isn't started either.
+            // Then the first operation isn't started either.
             Err(Full) => self.user_abort(),
         }
     }

@@ -12,7 +12,7 @@ pub struct DeviceFault;
 #[error("the output cannot be written")]
 pub struct WriteFault;
 
-/// Why not all lines of a reader were taken. Lines are counted from 1.
+/// Why the lines of a reader weren't all taken. Lines are counted from 1.
 #[derive(Debug, Drop)]
 pub enum LinesFault<F> {
     /// The line with this number is too long.

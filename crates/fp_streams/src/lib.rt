@@ -5,7 +5,7 @@
 //!
 //! * [`LinkRead`] and [`LinkWrite`] are devices that count their failures, so that a reported failure can be shown to
 //!   have happened. [`Counted`] makes them of a [`Read`](std::io::Read) and a [`Write`](std::io::Write).
-//! * [`follow_lines`] hands the lines of a reader to a [`TakesLine`], one after another, however the reads cut them.
+//! * [`follow_lines`] hands the lines of a reader to a [`TakesLine`], one after another, however the reads divide them.
 //! * [`write_all`] writes octets, in one or more writes.
 //!
 //! The layer above may rely on this. The octets that [`follow_lines`] read are the taken lines, each with its line

@@ -17,8 +17,8 @@ use std::marker::Model;
 #[derive(Debug, Drop)]
 pub(crate) struct ByDeadline {
     // A deadline is a fixed time after a message, and there are few such times. Deadlines of one kind are set in order,
-    // so up to four kinds find a lane each where they are last. A deadline that is last in no lane goes into the
-    // fourth. For example, one of a fifth kind, or one after a clock was set back.
+    // so up to four kinds each get a lane to whose end they are added. A deadline that is last in no lane goes into the
+    // fourth: for example, a deadline of a fifth kind, or one after a clock was set back.
     first: Lane,
     second: Lane,
     third: Lane,
@@ -42,7 +42,7 @@ impl Model for ByDeadline {
 }
 
 impl ByDeadline {
-    /// No timers, with memory for the most that there may be.
+    /// A map without timers. Reserves memory for [`Deadlines::MOST`] of them.
     pub(crate) fn new(alloc: Global) -> Result<ByDeadline, AllocError>
         ensures { IfOk result (λ own. own ≡ map.empty) }
     {

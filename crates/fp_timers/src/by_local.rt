@@ -35,7 +35,7 @@ impl Model for ByLocal {
 }
 
 impl ByLocal {
-    /// No timers, with memory for the most that there may be.
+    /// A map without timers. Reserves memory for [`Deadlines::MOST`] of them.
     pub(crate) fn new(alloc: Global) -> Result<ByLocal, AllocError>
         ensures { IfOk result (λ own. own ≡ map.empty) }
     {

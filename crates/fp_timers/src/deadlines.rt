@@ -37,10 +37,10 @@ impl Model for Deadlines {
 }
 
 impl Deadlines {
-    /// The most deadlines that there may be.
+    /// The most deadlines at once.
     pub const MOST: usize = 4096;
 
-    /// No deadlines, with memory for the most that there may be.
+    /// A map without deadlines. Reserves memory for [`Deadlines::MOST`] of them.
     pub fn new(alloc: Global) -> Result<Deadlines, AllocError>
         ensures { IfOk result (λ deadlines. deadlines ≡ map.empty) }
     {

@@ -30,7 +30,7 @@ impl Model for Lane {
 }
 
 impl Lane {
-    /// No timers, with memory for the most that there may be.
+    /// A lane without timers. Reserves memory for [`Deadlines::MOST`] of them.
     pub(crate) fn new(alloc: Global) -> Result<Lane, AllocError>
         ensures { IfOk result (λ lane. lane ≡ []) }
     {

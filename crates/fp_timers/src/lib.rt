@@ -7,9 +7,9 @@
 //!
 //! Each deadline is in a list in the order of identifiers, and in one of four lanes, each in the order of deadlines. A
 //! new one goes to the end of the first lane where it is last. Deadlines that are set the same time ahead are set in
-//! order. So they mostly share a lane, and one is seldom put between others. A change looks at both ends of the
-//! list and at the ends of the lanes first, and searches by halves if it isn't there. [`Deadlines::due`] looks only at the first
-//! of each lane. [`Deadlines::due_after`] searches each lane by halves, unless it is asked for the first of all.
+//! order. So they mostly share a lane, and one is seldom put between others. A change looks for its deadline at both
+//! ends of the list and of the lanes first, and then searches by halves. [`Deadlines::due`] looks only at the first of
+//! each lane. [`Deadlines::due_after`] searches each lane by halves, unless it is asked for the first of all.
 //!
 //! The layer above may rely on this: contracts see [`Deadlines`] as a finite map from identifier to deadline, which
 //! [`Deadlines::set`] and [`Deadlines::clear`] change at one identifier alone, and [`Deadlines::clear_all`] empties.
