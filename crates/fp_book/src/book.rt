@@ -21,7 +21,7 @@ use std::marker::Model;
 pub struct Book {
     // The link, 0 to 7.
     pub(crate) link: u8,
-    // The tag of its run, 0 to 4,094.
+    // The tag of the run, 0 to 4,094.
     pub(crate) tag: u16,
     pub(crate) ids: LocalIds,
     // How many Begins were accepted.
@@ -30,7 +30,7 @@ pub struct Book {
     pub(crate) entries: u64,
     // The dialogues that are held.
     pub(crate) rows: Rows,
-    // The deadline of each that has one.
+    // The deadline of each dialogue that has one.
     pub(crate) deadlines: Deadlines,
     pub(crate) ready: ReadyQueue,
     pub(crate) outbox: Outbox,
@@ -132,13 +132,14 @@ impl Book {
 
     /// The status of the link. Takes no memory, and goes through no dialogues.
     pub fn status(&self) -> Status
-        ensures value { result ≡ record { is_down = self.now.is_down; totals = self.now.totals; dialogues = map.len self.now.rows } }
+        ensures value { result ≡ record { is_down = self.now.is_down; totals = self.now.totals; dialogues = map.len self.now.rows; places = places_held self.now } }
         ensures sound { Sound self.now }
     {
         Status {
             is_down: self.is_down,
             totals: self.totals,
             dialogues: self.rows.len(),
+            places: self.places_held(),
         }
     }
 

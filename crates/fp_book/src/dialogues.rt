@@ -17,7 +17,7 @@ use std::alloc::{AllocError, Global};
 /// A changed dialogue, as the other parts of a book need to know it.
 #[derive(Clone, Copy, Debug)]
 pub(crate) struct Left {
-    /// Its birth.
+    /// The birth of the dialogue.
     pub(crate) birth: u64,
     /// Whether the dialogue is still held.
     pub(crate) is_held: bool,
@@ -192,8 +192,8 @@ pub(crate) fn sent(rows: &mut Rows, local: u32) -> bool
     is_held
 }
 
-/// Ends a dialogue that is there from outside, and removes it if it is no longer held. Returns whether it stays, and
-/// the parts of it that you must drop elsewhere. Takes no memory.
+/// Ends a dialogue, which must be there, from outside, and removes it if it is no longer held. Returns whether it
+/// stays, and the parts of it that you must drop elsewhere. Takes no memory.
 pub(crate) fn end(rows: &mut Rows, local: u32, ending: Ending, is_sending: bool) -> Dropped
     requires { IsTrue (contains_key rows.old local) }
     ensures ends { EndsAt rows.old local ending is_sending result.is_held rows.new }
@@ -214,8 +214,8 @@ pub(crate) fn end(rows: &mut Rows, local: u32, ending: Ending, is_sending: bool)
 }
 
 /// Puts entries at the end of a dialogue that takes messages, and ends it if its peer does. The dialogue is removed if
-/// it is no longer held. Returns whether it has become ready. If memory runs out, which it never does for no entries,
-/// nothing changes, and the entries are lost.
+/// it is no longer held. Returns whether it has become ready. If memory runs out, nothing changes, and the entries are
+/// lost; without entries it never runs out.
 pub(crate) fn extend(
     rows: &mut Rows,
     local: u32,

@@ -35,8 +35,8 @@ impl Book {
         found.names_a_cause() && came.arrival().ids.orig.is_some()
     }
 
-    /// Whether a message lacks nothing but room: it is readable, it hasn't too many elements, and the link accepts
-    /// further entries.
+    /// Whether a message lacks only room: it is readable, it hasn't too many elements, and the link accepts further
+    /// entries.
     fn lacks_only_room(&self, came: &Prepared) -> bool
         ensures { result ≡ lacks_only_room self.now came.now }
     {

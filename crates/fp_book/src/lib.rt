@@ -2,9 +2,9 @@
 //! its book.
 //!
 //! The layer is handed prepared messages, moments, served turns and reports of sent frames, and answers with the next
-//! thing to do. It knows no clock, no thread and no socket, and asks the system for nothing but memory. [`Book::new`]
-//! reserves memory that is never grown. After it nothing but [`Book::post`] (or [`Book::post_with_receipt`]),
-//! [`Book::tick`], [`Book::take`] and [`Book::serve`] takes any.
+//! thing to do. It knows no clock, no thread and no socket, and asks the system only for memory. [`Book::new`] reserves
+//! memory that never grows. Afterwards only [`Book::post`] (or [`Book::post_with_receipt`]), [`Book::tick`],
+//! [`Book::take`] and [`Book::serve`] take memory.
 //!
 //! | Call | Event | Answer |
 //! |---|---|---|

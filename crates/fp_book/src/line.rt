@@ -29,13 +29,13 @@ pub enum Line {
 pub enum LoggedStep {
     /// A message was posted.
     Post {
-        /// The index among the run's tables of the one whose records the message was read by.
+        /// The index of the table that the message was read with, among the tables of the run.
         table: u16,
         /// The moment of the message.
         moment: Moment,
         /// The message, without its head.
         message: Frame,
-        /// Its outcome.
+        /// The outcome of the message.
         answer: Posted,
     },
     /// A message was posted, and treated as lost because memory ran out for it.
@@ -44,7 +44,7 @@ pub enum LoggedStep {
         moment: Moment,
         /// The message, without its head.
         message: Frame,
-        /// Its outcome.
+        /// The outcome of the message.
         answer: Posted,
     },
     /// A tick that found a dialogue due.

@@ -33,10 +33,10 @@ impl Model for Log {
 }
 
 impl Log {
-    /// The most steps that there may be, including a gap in the last place.
+    /// The most steps in a log, including a gap in the last place.
     pub const MOST: usize = 8192;
 
-    /// No steps, with memory for the most that there may be.
+    /// A log without steps. Reserves memory for [`Log::MOST`] of them.
     pub fn new(alloc: Global) -> Result<Log, AllocError>
         ensures { IfOk result (λ log. log ≡ []) }
     {

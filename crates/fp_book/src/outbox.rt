@@ -60,7 +60,8 @@ impl Outbox {
     /// The most frames of dialogues that may wait.
     pub const MOST_FRAMES: usize = 8192;
 
-    /// No frame waits or is being sent. Takes the memory for all that may wait, and for the one that is being sent.
+    /// An outbox in which no frame waits or is being sent. Reserves memory for all frames that may wait, and for the
+    /// one that is being sent.
     pub fn new(alloc: Global) -> Result<Outbox, AllocError>
         ensures { IfOk result (λ outbox. outbox ≡ nothing) }
     {

@@ -30,7 +30,7 @@ pub(crate) enum Content {
 pub(crate) struct Waiting {
     /// The local transaction identifier of the dialogue.
     pub(crate) local: u32,
-    /// Its birth.
+    /// The birth of the dialogue.
     pub(crate) birth: u64,
     /// The frame of its request.
     pub(crate) frame: RequestFrame,

@@ -27,7 +27,7 @@ use std::alloc::Global;
 #[derive(Clone, Copy, Debug)]
 pub(crate) struct Named {
     pub(crate) local: u32,
-    // The number of its places that are taken.
+    // The number of the dialogue's places for entries that are taken.
     pub(crate) places: usize,
 }
 
@@ -88,8 +88,8 @@ fn answer_by(
     }
 }
 
-/// Drops the waiting frames of a dialogue, if it has any: only then the frames of all dialogues are gone through. Takes
-/// no memory.
+/// Drops the waiting frames of a dialogue, if it has any. Only then are the frames of all dialogues searched. Takes no
+/// memory.
 fn drop_frames_if(outbox: &mut Outbox, local: u32, some_wait: bool)
     ensures { outbox.new ≡ (if some_wait then without_frames_of local outbox.old else outbox.old) }
 {
@@ -98,8 +98,8 @@ fn drop_frames_if(outbox: &mut Outbox, local: u32, some_wait: bool)
     }
 }
 
-/// Takes a dialogue out of the order of service, if it has a place there: only then the whole order is gone through.
-/// Takes no memory.
+/// Takes a dialogue out of the order of service, if it has a place there. Only then is the whole order searched. Takes
+/// no memory.
 fn leave_if(ready: &mut ReadyQueue, local: u32, was_ready: bool)
     ensures { ready.new ≡ (if was_ready then without local ready.old else ready.old) }
 {
@@ -109,7 +109,7 @@ fn leave_if(ready: &mut ReadyQueue, local: u32, was_ready: bool)
 }
 
 impl Book {
-    /// Whether the link accepted all the entries that it ever accepts.
+    /// Whether the link has reached its limit on accepted entries, [`Book::ALL_ENTRIES`].
     pub(crate) fn is_full(&self) -> bool
         ensures { result ≡ is_full self.now }
     {

@@ -30,10 +30,10 @@ impl Model for ReadyQueue {
 }
 
 impl ReadyQueue {
-    /// The most identifiers that there may be.
+    /// The most identifiers in a queue.
     pub const MOST: usize = Book::MOST_DIALOGUES;
 
-    /// An empty queue, with memory for the most identifiers that there may be.
+    /// An empty queue. Reserves memory for [`ReadyQueue::MOST`] identifiers.
     pub fn new(alloc: Global) -> Result<ReadyQueue, AllocError>
         ensures { IfOk result (λ queue. queue ≡ []) }
     {

@@ -7,7 +7,7 @@ ghost use Rattle.fp_book.specs.Rules.{verdict_by};
 use crate::rules::Rule;
 use fp_q773::{AbortCause, Tid};
 
-/// The decision on a posted message, given the dialogues that there are.
+/// The decision on a posted message, given the dialogues of the link.
 #[derive(Clone, Copy, Debug)]
 pub enum Verdict {
     /// The message is only logged.

@@ -14,6 +14,8 @@ pub struct Gauges {
     pub dialogues: u64,
     /// The most dialogues that the link held.
     pub most_dialogues: u64,
+    /// The most places for frames of the link that were held.
+    pub most_places: u64,
     /// How many log lines of the link aren't written yet.
     pub lines: u64,
     /// The most log lines of the link that weren't written yet.
@@ -31,6 +33,8 @@ pub(crate) enum Gauge {
     Dialogues,
     /// The most dialogues that the link held.
     MostDialogues,
+    /// The most places for frames that were held.
+    MostPlaces,
     /// The log lines that wait to be written.
     Lines,
     /// The most log lines that waited.
@@ -39,7 +43,7 @@ pub(crate) enum Gauge {
 
 impl Gauge {
     /// Each value once.
-    pub(crate) fn all() -> [Gauge; 6]
+    pub(crate) fn all() -> [Gauge; 7]
         ensures { result ≡ all_gauges }
     {
         [
@@ -47,6 +51,7 @@ impl Gauge {
             Gauge::UpSince,
             Gauge::Dialogues,
             Gauge::MostDialogues,
+            Gauge::MostPlaces,
             Gauge::Lines,
             Gauge::MostLines,
         ]
@@ -61,6 +66,7 @@ impl Gauge {
             Gauge::UpSince => "freephone_scp_link_start_time_seconds{link=\"",
             Gauge::Dialogues => "freephone_scp_dialogues{link=\"",
             Gauge::MostDialogues => "freephone_scp_dialogues_most{link=\"",
+            Gauge::MostPlaces => "freephone_scp_frame_places_most{link=\"",
             Gauge::Lines => "freephone_scp_log_lines_waiting{link=\"",
             Gauge::MostLines => "freephone_scp_log_lines_waiting_most{link=\"",
         }
@@ -82,6 +88,9 @@ impl Gauge {
             }
             Gauge::MostDialogues => {
                 "# HELP freephone_scp_dialogues_most The most dialogues that the link was seen to hold.\n# TYPE freephone_scp_dialogues_most gauge\n"
+            }
+            Gauge::MostPlaces => {
+                "# HELP freephone_scp_frame_places_most The most places for frames of the link that were seen to be held.\n# TYPE freephone_scp_frame_places_most gauge\n"
             }
             Gauge::Lines => {
                 "# HELP freephone_scp_log_lines_waiting Log lines that left the book of the link and aren't written yet.\n# TYPE freephone_scp_log_lines_waiting gauge\n"
@@ -110,6 +119,7 @@ impl Gauges {
             Gauge::UpSince => self.up_since,
             Gauge::Dialogues => self.dialogues,
             Gauge::MostDialogues => self.most_dialogues,
+            Gauge::MostPlaces => self.most_places,
             Gauge::Lines => self.lines,
             Gauge::MostLines => self.most_lines,
         }

@@ -55,7 +55,7 @@
 //! | `link/` | a link: its threads, their shared state, and its end |
 //! | `socket/` | connections: awaiting, watching, reading and writing them |
 //! | `log/` | the log, from the lines that a book hands out to the device |
-//! | `watch/` | the counters for a run's watchers, and the thread that answers them |
+//! | `watch/` | the counters of a run, over those of its links (`fp_tally`), and the thread that answers its watchers |
 //! | `moment.rt`, `system.rt` | the time; the needs of a run from the system, and the start of a thread of no scope |
 //!
 //! The links of a run have the numbers from its first link on. Inside, a link is known by its place among them, from 0;
@@ -63,9 +63,10 @@
 //!
 //! The layer above may rely on this: if [`Server::serve`] returns without a fault, it wrote the address, the answers to
 //! commands, and a line for each link, after one with zeros for each number below the first link, and nothing else
-//! (`specs/Report.antt`). `fp_hub` states the guarantees of a link's book, seats and hub, and `fp_linkio` those of
-//! reading frames and writing parcels. No contract speaks of the octets of sockets and the log, or says that the
-//! threads get on, or that each does its part in the picture: the tests of `tests_serve`, over loopback, show it.
+//! (`specs/Report.antt`). `fp_hub` states the guarantees of a link's book, seats and hub, `fp_linkio` those of reading
+//! frames and writing parcels, and `fp_tally` those of its counters. No contract speaks of the octets of sockets and
+//! the log, or says that the threads get on, or that each does its part in the picture: the tests of `tests_serve`,
+//! over loopback, show it.
 #![tactic(auto)]
 
 mod link;

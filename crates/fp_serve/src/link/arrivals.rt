@@ -126,14 +126,16 @@ impl<R: System, G: Gate, A: Ledger, B: Ledger, C: Ledger> Arrivals<'_, R, G, A, 
         is_aborted
     }
 
-    /// Counts the message that is held back, once, if the run has counters.
+    /// Counts the message that is held back, once, and notes how near the limits are, if the run has counters.
     fn count_held_back(&mut self) {
         if self.is_held || self.came.is_empty() {
             return;
         }
         self.is_held = true;
+        let Link { run, hub, .. } = self.link;
         if let Some(metrics) = self.link.metrics {
-            metrics.count_held_back(self.link.run.rt);
+            metrics.count_held_back(run.rt);
+            metrics.note_status(run.rt, hub.status(run.rt));
         }
     }
 
@@ -145,7 +147,7 @@ impl<R: System, G: Gate, A: Ledger, B: Ledger, C: Ledger> Arrivals<'_, R, G, A, 
         };
         if self.reads_to_the_sample == 0 {
             // If that is no Begin, or another answer is awaited, the next read is looked at.
-            let is_awaited = metrics.sample.open(self.link.run.rt, frame);
+            let is_awaited = metrics.open_sample(self.link.run.rt, frame);
             self.reads_to_the_sample = if is_awaited { READS_OF_A_SAMPLE } else { 1 };
         }
     }

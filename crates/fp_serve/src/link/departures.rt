@@ -6,11 +6,11 @@ use crate::link::Link;
 use crate::moment::time_since;
 use crate::socket::TracedStream;
 use crate::system::System;
-use crate::watch::{LinkMetrics, SentCounts};
 use fp_book::{Parcel, Picked};
 use fp_hub::{Next, Seat, SentAndNext};
 use fp_linkio::{Counted, DeviceFault, Ended, Gathered, LinkWrite, Outlet, send_loop};
 use fp_linkstate::{LinkEvent, Why};
+use fp_tally::{LinkMetrics, SentCounts};
 use std::alloc::{AllocError, Global};
 use std::sync::ledger::Ledger;
 use std::sync::{MutexGuard, Wait};
@@ -90,7 +90,7 @@ fn counts_of<'x, R: Wait>(
     metrics: Option<&'x LinkMetrics>,
 ) -> Option<MutexGuard<'x, SentCounts>> {
     match metrics {
-        Some(metrics) => Some(metrics.sending.lock(rt)),
+        Some(metrics) => Some(metrics.sending(rt)),
         None => None,
     }
 }

@@ -5,15 +5,15 @@ ghost use Rattle.fp_hub.specs.Shares.{AreBlanks};
 
 use crate::link::departures::Outgoing;
 use crate::log::LinkLog;
-use crate::moment::time_since;
+use crate::moment::{now, time_since};
 use crate::run::{Event, Run, ServeFault};
 use crate::socket::{LinkStream, TracedStream};
 use crate::system::System;
-use crate::watch::LinkMetrics;
 use crossbeam_utils::CachePadded;
 use fp_book::{Status, Totals};
 use fp_hub::{Gate, Hub, PARTS, finish};
 use fp_linkstate::{Action, LinkEnd, LinkEvent, Why};
+use fp_tally::LinkMetrics;
 use std::marker::Brand;
 use std::net::Shutdown;
 use std::sync::Mutex;
@@ -98,7 +98,7 @@ impl<'x, R: System, A: Ledger, B: Ledger, C: Ledger> Link<'x, R, A, B, C> {
             self.run.events.report(rt, Event::Up { link, peer });
         }
         if let Some(metrics) = self.metrics {
-            metrics.note_up(rt, stop.time(rt));
+            metrics.note_up(rt, now(rt), stop.time(rt));
         }
     }
 

@@ -3,9 +3,9 @@
 use crate::link::Link;
 use crate::run::{Event, Run, ServeFault};
 use crate::system::System;
-use crate::watch::{LineCounts, LinkMetrics, StepCounts};
 use fp_book::{Line, Log, LoggedStep};
 use fp_logtext::{MadeText, UnwrittenText, WaitingLines};
+use fp_tally::{LineCounts, LinkMetrics, StepCounts};
 use std::alloc::{AllocError, Global};
 use std::sync::atomic::{AtomicU64, Ordering};
 use std::sync::ledger::Ledger;
@@ -64,7 +64,7 @@ fn steps_of<'x, R: Wait>(
     metrics: Option<&'x LinkMetrics>,
 ) -> Option<MutexGuard<'x, StepCounts>> {
     match metrics {
-        Some(metrics) => Some(metrics.steps.lock(rt)),
+        Some(metrics) => Some(metrics.steps(rt)),
         None => None,
     }
 }
@@ -76,32 +76,15 @@ fn count(steps: &mut Option<MutexGuard<'_, StepCounts>>, step: &LoggedStep) {
     }
 }
 
-/// Counts lines for each called number, if the run counts numbers.
-fn count_numbers_of_lines<R: System>(numbers: &Option<LineCounts<'_, R>>, lines: &[Line]) {
-    let Some(numbers) = numbers else {
-        return;
-    };
-    let mut rows = numbers.rows();
-    for line in lines {
-        if let Line::Step { step, .. } = line {
-            numbers.count(&mut rows, step);
-        }
-    }
-    numbers.finish(&mut rows);
-}
-
-/// Counts the lines of a log for each called number, if the run counts numbers.
-fn count_numbers_of_log<R: System>(numbers: &Option<LineCounts<'_, R>>, log: &Log) {
-    let Some(numbers) = numbers else {
-        return;
-    };
-    let mut rows = numbers.rows();
-    for place in 0..log.len() {
-        if let Some(step) = log.get(place) {
-            numbers.count(&mut rows, step);
-        }
-    }
-    numbers.finish(&mut rows);
+/// Begins to take lines out of the book of a link, to count them for each called number. `None` if the run doesn't
+/// count numbers, or there is no memory for a share of the records.
+fn line_counts<'x, R: System>(
+    run: &Run<'x, R>,
+    metrics: Option<&'x LinkMetrics>,
+) -> Option<LineCounts<'x, R>> {
+    let counts = metrics?.number_counts()?;
+    let table = run.service.tables.table(run.rt).ok()?;
+    Some(LineCounts::begin(run.rt, run.service.alloc, counts, table))
 }
 
 /// Lines that left the book of a link.
@@ -191,7 +174,7 @@ impl<R: System, A: Ledger, B: Ledger, C: Ledger> Link<'_, R, A, B, C> {
 
     /// Moves the next lines of the book to `lines.moved`, counts them, and reports the gaps among them.
     fn drain(&self, lines: &mut Moved) {
-        let numbers = LineCounts::begin(self.run, self.metrics);
+        let numbers = line_counts(self.run, self.metrics);
         self.hub.drain(self.run.rt, &mut lines.moved);
         {
             let mut steps = steps_of(self.run.rt, self.metrics);
@@ -202,7 +185,9 @@ impl<R: System, A: Ledger, B: Ledger, C: Ledger> Link<'_, R, A, B, C> {
                 }
             }
         }
-        count_numbers_of_lines(&numbers, lines.moved.as_slice());
+        if let Some(numbers) = numbers {
+            numbers.count_lines(lines.moved.as_slice());
+        }
         self.note_counted(lines.moved.len());
     }
 
@@ -229,7 +214,7 @@ impl<R: System, A: Ledger, B: Ledger, C: Ledger> Link<'_, R, A, B, C> {
     /// among them.
     fn exchange(&self, lines: &mut Moved, making: &mut MadeText) {
         lines.exchanged.clear();
-        let numbers = LineCounts::begin(self.run, self.metrics);
+        let numbers = line_counts(self.run, self.metrics);
         let link = self.hub.exchange_log(self.run.rt, &mut lines.exchanged);
         {
             let mut steps = steps_of(self.run.rt, self.metrics);
@@ -240,7 +225,9 @@ impl<R: System, A: Ledger, B: Ledger, C: Ledger> Link<'_, R, A, B, C> {
                 }
             }
         }
-        count_numbers_of_log(&numbers, &lines.exchanged);
+        if let Some(numbers) = numbers {
+            numbers.count_log(&lines.exchanged);
+        }
         self.note_counted(lines.exchanged.len());
         making.take_log(link, &mut lines.exchanged);
     }

@@ -3,8 +3,8 @@
 use crate::run::commands::{Command, Notice};
 use crate::run::{ServeFault, Stop};
 use crate::system::{System, start_thread};
-use crate::watch::CalledNumber;
 use crossbeam_channel::Sender;
+use fp_tally::CalledNumber;
 use std::io::{ErrorKind, Read};
 use std::rt::Clock;
 use std::str;

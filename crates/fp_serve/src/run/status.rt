@@ -70,6 +70,7 @@ impl Statuses {
             is_down: false,
             totals: NOTHING,
             dialogues: 0,
+            places: 0,
         };
         // There is room for all links.
         let _ = self.links.lock(rt).push(LinkStatus { peer, status });

@@ -2,9 +2,10 @@
 
 use crate::log::Log;
 use crate::run::Stop;
-use crate::watch::{LinkMetrics, Metrics};
+use crate::watch::Metrics;
 use fp_metrics::Health;
 use fp_network::Drain;
+use fp_tally::LinkMetrics;
 use std::alloc::AllocError;
 use std::rt::Clock;
 use std::sync::{Arc, Wait};

@@ -5,10 +5,9 @@ ghost use Rattle.fp_serve.specs.Report.{TellsNumbers};
 
 use crate::log::Log;
 use crate::run::{Settings, Version};
-use crate::watch::number_counts::NumberCounts;
-use crate::watch::{CalledNumber, LinkMetrics};
 use fp_counters::{Counters, Histogram};
 use fp_metrics::{LinkNumbers, RunNumbers, metrics_text};
+use fp_tally::{CalledNumber, LinkMetrics};
 use std::alloc::{AllocError, Global};
 use std::sync::atomic::{AtomicBool, Ordering};
 use std::sync::{Arc, Mutex, Wait};
@@ -56,16 +55,6 @@ fn hexadecimal(alloc: Global, digest: &[u8; 32]) -> Result<String, AllocError> {
     Ok(text)
 }
 
-/// The counters of a link, all 0, also for called numbers if the run counts numbers.
-fn link_metrics(alloc: Global, counts_numbers: bool) -> Result<LinkMetrics, AllocError> {
-    let numbers = if counts_numbers {
-        Some(NumberCounts::new(alloc)?)
-    } else {
-        None
-    };
-    Ok(LinkMetrics::new(numbers))
-}
-
 /// The numbers of a run in the text format of Prometheus.
 fn numbers_text(alloc: Global, run: &RunNumbers<'_>) -> Result<String, AllocError>
     ensures { IfOk result (λ text. TellsNumbers (string_bytes text)) }
@@ -87,7 +76,7 @@ impl Metrics {
     ) -> Result<Arc<Metrics>, AllocError> {
         let mut links = Vec::with_capacity(alloc, usize::from(settings.links))?;
         for _ in 0..settings.links {
-            links.push(link_metrics(alloc, counts_numbers)?)?;
+            links.push(LinkMetrics::new(alloc, counts_numbers)?)?;
         }
         let metrics = Metrics {
             version,
@@ -156,7 +145,7 @@ impl Metrics {
         let mut counters = Counters::new();
         let mut is_counted = false;
         for link in self.links.iter() {
-            if let Some(numbers) = &link.numbers {
+            if let Some(numbers) = link.number_counts() {
                 numbers.add_to(rt, number, &mut counters);
                 is_counted = true;
             }

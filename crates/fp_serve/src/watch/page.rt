@@ -9,7 +9,6 @@ use crate::watch::health::link_hangs;
 use crate::watch::recent::LinkSeen;
 use crate::watch::{RecentEvents, Watch};
 use fp_counters::Counter;
-use fp_logtext::WaitingLines;
 use fp_metrics::LinkNumbers;
 use fp_page::{
     History, LinkView, PageNumbers, RunHistory, aborts_sent, components_sent, page_text,
@@ -216,7 +215,6 @@ impl Page {
                 answers: &self.answers,
                 aborts: &self.aborts,
             },
-            line_places: WaitingLines::MOST as u64,
             log_fails: self.recent.log_fails(),
             log_hangs: watch.log_hangs(time),
             lacks_network: metrics.lacks_connection(),

@@ -4,17 +4,15 @@
 //! lines: the line of the Begin that opened the dialogue of such a frame is among them, or was counted earlier. A
 //! thread that sends notes each frame, in the order of sending, and doesn't wait until lines are counted.
 
-use crate::run::Run;
-use crate::system::System;
-use crate::watch::frames::SentFrame;
-use crate::watch::number_rows::NumberRows;
-use crate::watch::{CalledNumber, LinkMetrics};
-use fp_book::LoggedStep;
+use crate::called::CalledNumber;
+use crate::frames::SentFrame;
+use crate::number_rows::NumberRows;
+use fp_book::{Line, Log, LoggedStep};
 use fp_counters::Counters;
 use fp_records::Table;
 use std::alloc::{AllocError, Global};
 use std::collections::VecDeque;
-use std::sync::{Arc, Mutex, MutexGuard, Wait};
+use std::sync::{Arc, Mutex, Wait};
 
 /// The most frames that wait to be counted: as many as the book of a link has lines. Further frames aren't counted.
 /// That happens only while no line leaves the book.
@@ -22,7 +20,7 @@ const MOST_FRAMES: usize = 8_192;
 
 /// The counters of each called number of a link.
 #[derive(Drop)]
-pub(crate) struct NumberCounts {
+pub struct NumberCounts {
     rows: Mutex<NumberRows>,
     // The sent frames that aren't counted yet. Taken after the lock of `rows`, or without it.
     sent: Mutex<VecDeque<SentFrame>>,
@@ -56,14 +54,16 @@ impl NumberCounts {
     }
 
     /// Adds the counters of a number to other counters.
-    pub(crate) fn add_to<R: Wait>(&self, rt: &R, number: CalledNumber, counters: &mut Counters) {
+    pub fn add_to<R: Wait>(&self, rt: &R, number: CalledNumber, counters: &mut Counters) {
         self.rows.lock(rt).add_to(number.key(), counters);
     }
 }
 
 /// The lines that leave the book of a link at a time, while they are counted for each called number.
+///
+/// The caller begins before it takes lines out of the book, and counts all of them once it has them.
 #[derive(Drop)]
-pub(crate) struct LineCounts<'x, R> {
+pub struct LineCounts<'x, R> {
     rt: &'x R,
     alloc: Global,
     counts: &'x NumberCounts,
@@ -73,41 +73,60 @@ pub(crate) struct LineCounts<'x, R> {
     sent: usize,
 }
 
-impl<'x, R: System> LineCounts<'x, R> {
-    /// Begins to take lines out of the book of a link with these metrics. `None` if the run doesn't count numbers, or
-    /// there is no memory for a share of the records.
-    pub(crate) fn begin(
-        run: &Run<'x, R>,
-        metrics: Option<&'x LinkMetrics>,
-    ) -> Option<LineCounts<'x, R>> {
-        let counts = metrics?.numbers.as_ref()?;
-        let table = run.service.tables.table(run.rt).ok()?;
-        Some(LineCounts {
-            rt: run.rt,
-            alloc: run.service.alloc,
+impl<'x, R: Wait> LineCounts<'x, R> {
+    /// Begins to take lines out of the book of a link with these counters. A number gets a row if this table, the
+    /// newest, has it.
+    pub fn begin(
+        rt: &'x R,
+        alloc: Global,
+        counts: &'x NumberCounts,
+        table: Arc<Table>,
+    ) -> LineCounts<'x, R> {
+        LineCounts {
+            rt,
+            alloc,
             counts,
             table,
-            sent: counts.sent_count(run.rt),
-        })
+            sent: counts.sent_count(rt),
+        }
     }
 
-    /// The counters of the called numbers, locked while lines are counted.
-    pub(crate) fn rows(&self) -> MutexGuard<'x, NumberRows> {
-        self.counts.rows.lock(self.rt)
-    }
-
-    /// Counts a line.
-    pub(crate) fn count(&self, rows: &mut NumberRows, step: &LoggedStep) {
+    /// Counts a step.
+    fn count(&self, rows: &mut NumberRows, step: &LoggedStep) {
         rows.count_step(self.alloc, &self.table, step);
     }
 
     /// Counts the frames that had been sent before, once all lines are counted.
-    pub(crate) fn finish(&self, rows: &mut NumberRows) {
+    fn finish(&self, rows: &mut NumberRows) {
         for _ in 0..self.sent {
             let Some(frame) = self.counts.next_sent(self.rt) else {
                 break;
             };
             rows.count_sent(&frame);
         }
+    }
+
+    /// Counts lines that were drained from the book, and then the frames that had been sent before. The counters stay
+    /// locked meanwhile.
+    pub fn count_lines(&self, lines: &[Line]) {
+        let mut rows = self.counts.rows.lock(self.rt);
+        for line in lines {
+            if let Line::Step { step, .. } = line {
+                self.count(&mut rows, step);
+            }
+        }
+        self.finish(&mut rows);
+    }
+
+    /// Counts the lines of a log that was exchanged for an empty one, and then the frames that had been sent before.
+    /// The counters stay locked meanwhile.
+    pub fn count_log(&self, log: &Log) {
+        let mut rows = self.counts.rows.lock(self.rt);
+        for place in 0..log.len() {
+            if let Some(step) = log.get(place) {
+                self.count(&mut rows, step);
+            }
+        }
+        self.finish(&mut rows);
     }
 }

@@ -3,7 +3,7 @@
 //! The called number of the first InitialDP of the Begin that can be read and isn't linked to another Invoke: the one
 //! that the service answers.
 
-use crate::watch::plain_begin::called_octets;
+use crate::plain_begin::called_octets;
 use fp_digits::{Number, read_called};
 use fp_inap::{Operation, initial_dp_in};
 use fp_q773::{Code, Component, Invoke, Message, message_of};
@@ -33,15 +33,15 @@ pub(crate) fn key_of(digits: &[u8]) -> Option<u64> {
     if key == 0 { None } else { Some(key) }
 }
 
-/// A called number of 1 to 15 decimal digits, as an operator writes it.
+/// A called number of 1 to 15 decimal digits, as an operator writes it. For example, `80012345`.
 #[derive(Clone, Copy, Debug, PartialEq, Eq)]
-pub(crate) struct CalledNumber {
+pub struct CalledNumber {
     key: u64,
 }
 
 impl CalledNumber {
-    /// The number of a text, if it is one.
-    pub(crate) fn from_text(text: &str) -> Option<CalledNumber> {
+    /// The number in a text. `None` if the text isn't 1 to 15 decimal digits.
+    pub fn from_text(text: &str) -> Option<CalledNumber> {
         let mut key = 0;
         for octet in text.as_bytes() {
             key = with_digit(key, octet.wrapping_sub(b'0'))?;
@@ -57,8 +57,8 @@ impl CalledNumber {
         self.key
     }
 
-    /// The digits of the number.
-    pub(crate) fn text(self, alloc: Global) -> Result<String, AllocError> {
+    /// The digits of the number. If memory runs out, there is no text.
+    pub fn text(self, alloc: Global) -> Result<String, AllocError> {
         let mut text = String::new(alloc);
         let mut rest = self.key;
         for _ in 0..MOST_DIGITS {

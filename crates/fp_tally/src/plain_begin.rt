@@ -2,7 +2,7 @@
 //!
 //! The Begin is one that opened a dialogue, so it can be read. In the plain form its first component is an Invoke of
 //! InitialDP that isn't linked and can be read, and each length on the way there is definite and has at most three
-//! octets. Any other Begin is read as a whole ([`called_number`](crate::watch::called::called_number)).
+//! octets. Any other Begin is read as a whole ([`called_number`](crate::called::called_number)).
 
 /// The tag of an integer.
 const INTEGER: u8 = 0x02;

@@ -5,8 +5,8 @@
 //! dialogue's local identifier, and stays there until another dialogue has that serial, at least 126,976 dialogues
 //! later.
 
-use crate::watch::called::{called_number, key_of};
-use crate::watch::frames::SentFrame;
+use crate::called::{called_number, key_of};
+use crate::frames::SentFrame;
 use fp_book::{LoggedStep, Posted};
 use fp_counters::{Counter, Counters};
 use fp_metrics::number_counters;

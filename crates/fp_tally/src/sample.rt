@@ -4,7 +4,6 @@
 //! the time of its read. The thread that sends a message to this identifier closes the sample, once that was written.
 //! Rows, books and logs know nothing of it.
 
-use crate::moment::time_since;
 use fp_frames::Frame;
 use fp_q773::{Kind, Tid, ids_of};
 use std::rt::Clock;
@@ -46,7 +45,7 @@ impl Sample {
         let mut asked = self.asked.lock(rt);
         if let Some(open) = *asked {
             let most = Duration::from_secs(MOST_SECONDS);
-            if time_since(rt, Some(open.read_at)).unwrap_or(most) < most {
+            if open.read_at.elapsed(rt).unwrap_or(most) < most {
                 return false;
             }
         }
@@ -75,7 +74,7 @@ impl Sample {
         *asked = None;
         self.is_open.store(false, Ordering::SeqCst);
         let most = Duration::from_secs(MOST_SECONDS);
-        if time_since(rt, Some(read_at)).unwrap_or(most) < most {
+        if read_at.elapsed(rt).unwrap_or(most) < most {
             Some(read_at)
         } else {
             None
