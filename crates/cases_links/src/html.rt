@@ -3,15 +3,17 @@
 //! | Case | What it gives |
 //! |---|---|
 //! | `escaped TEXT` | the text as the page has it |
-//! | `span WIDTH MOST TIME:TOTAL ..` | what a span shows after these notes, the period that goes on first |
+//! | `span WIDTH MOST TIME:TOTAL ..` | the numbers of a span after these notes, that of the current period first |
 //! | `history SECONDS RATE` | the numbers of the last minute, hour and day, once this many calls a second came for so long |
-//! | `troubles STATE` | how much is wrong in this state, and what |
+//! | `troubles STATE` | the number of troubles in this state, and their names |
 //! | `html STATE PEER EVENT` | the page in this state, `|` for a line feed |
+//! | `says STATE TEXT` | whether the page in this state has this text |
 //!
-//! A state is `rest`, `load`, `down`, `full`, `hang`, `gap` or `many`. In `down` the run is a node, and one call came in 200
-//! seconds; in `many` 1,234 come each second, and in the others five.
+//! A state is `rest`, `load`, `down`, `ended`, `full`, `hang`, `gap` or `many`. In `down` the run is a node, and one call came
+//! in 200 seconds; in `many` 1,234 come each second, and in the others five. In `ended` the link has just gone down.
 
 use cases::first_word;
+use fp_book::{Book, Outbox};
 use fp_counters::{Counter, Counters, Histogram};
 use fp_metrics::{Gauges, LinkNumbers};
 use fp_page::{History, LinkView, PageNumbers, RunHistory, Span, escaped, page_text, troubles_of};
@@ -28,7 +30,7 @@ fn escapes(alloc: Global, text: &str, out: &mut String) -> anyhow::Result<()> {
     Ok(())
 }
 
-/// The numbers of a span, from the period that goes on to the oldest one that is kept, and one more.
+/// The numbers of a span, from the current period to the oldest one that is kept, and one more.
 fn numbers(span: &Span, out: &mut String) -> anyhow::Result<()> {
     for before in 0..span.most() {
         write!(out, "{} ", span.number(before))?;
@@ -39,7 +41,7 @@ fn numbers(span: &Span, out: &mut String) -> anyhow::Result<()> {
     Ok(())
 }
 
-/// What a span shows after notes.
+/// The numbers of a span after notes.
 fn span(alloc: Global, words: &str, out: &mut String) -> anyhow::Result<()> {
     let (width, rest) = first_word(words);
     let (most, notes) = first_word(rest);
@@ -92,7 +94,7 @@ fn history(alloc: Global, words: &str, out: &mut String) -> anyhow::Result<()> {
     numbers(history.day(), out)
 }
 
-/// What is counted in a state.
+/// The counters of a link in a state.
 fn counters_of(state: &str) -> Counters {
     let mut counters = Counters::new();
     if state == "rest" {
@@ -112,19 +114,31 @@ fn counters_of(state: &str) -> Counters {
     counters
 }
 
-/// What a link has in a state.
+/// The most places for frames that were held in a state: all, as many as hold messages back, or one fewer.
+fn places_of(state: &str) -> usize {
+    match state {
+        "many" => Outbox::MOST_FRAMES,
+        "gap" => Book::MANY_PLACES,
+        "hang" => Book::MANY_PLACES - 1,
+        "down" => Outbox::MOST_FRAMES - 1,
+        _ => 3,
+    }
+}
+
+/// The current values of a link in a state, and its maxima.
 fn gauges_of(state: &str) -> Gauges {
     Gauges {
-        is_up: state != "rest" && state != "down",
+        is_up: state != "rest" && state != "down" && state != "ended",
         up_since: if state == "rest" { 0 } else { 1_700_000_000 },
         dialogues: if state == "many" { 3_900 } else { 2 },
         most_dialogues: if state == "many" { 4_096 } else { 10 },
+        most_places: places_of(state) as u64,
         lines: 1,
         most_lines: if state == "many" { 24_576 } else { 100 },
     }
 }
 
-/// How long answers took in a state.
+/// The times of answers in a state.
 fn times_of(state: &str) -> Histogram {
     let mut times = Histogram::new();
     if state != "rest" {
@@ -152,7 +166,6 @@ fn view<'a>(
         answer_times: times_of(state),
         links,
         history,
-        line_places: 32_768,
         log_fails: state == "full",
         log_hangs: state == "hang",
         lacks_network: state == "down",
@@ -162,10 +175,37 @@ fn view<'a>(
     }
 }
 
-/// The page in a state, or what is wrong then.
-fn page(alloc: Global, is_html: bool, words: &str, out: &mut String) -> anyhow::Result<()> {
+/// The page, the troubles on it, or whether it has a text.
+fn write_page(
+    alloc: Global,
+    kind: &str,
+    page: &PageNumbers<'_>,
+    wanted: &str,
+    out: &mut String,
+) -> anyhow::Result<()> {
+    if kind == "troubles" {
+        let troubles = troubles_of(alloc, page)?;
+        write!(out, "{}", troubles.len())?;
+        for trouble in troubles.as_slice() {
+            write!(out, " {trouble:?}")?;
+        }
+        return Ok(());
+    }
+    let text = page_text(alloc, page)?;
+    if kind == "says" {
+        let says = text.as_str().contains(wanted);
+        out.push_str(if says { "yes" } else { "no" })?;
+        return Ok(());
+    }
+    let text = text.as_str().replace(alloc, "\n", "|")?;
+    out.push_str(text.as_str())?;
+    Ok(())
+}
+
+/// A case about the page in a state.
+fn page(alloc: Global, kind: &str, words: &str, out: &mut String) -> anyhow::Result<()> {
     let (state, rest) = first_word(words);
-    let (peer, event) = first_word(rest);
+    let (peer, event) = first_word(if kind == "says" { "" } else { rest });
     let history = history_of(alloc, state)?;
     let link = LinkView {
         numbers: LinkNumbers {
@@ -186,21 +226,10 @@ fn page(alloc: Global, is_html: bool, words: &str, out: &mut String) -> anyhow::
     let links = [link];
     let events = [event];
     let page = view(state, &links, runs, &events);
-    if is_html {
-        let text = page_text(alloc, &page)?;
-        let text = text.as_str().replace(alloc, "\n", "|")?;
-        out.push_str(text.as_str())?;
-    } else {
-        let troubles = troubles_of(alloc, &page)?;
-        write!(out, "{}", troubles.len())?;
-        for trouble in troubles.as_slice() {
-            write!(out, " {trouble:?}")?;
-        }
-    }
-    Ok(())
+    write_page(alloc, kind, &page, rest, out)
 }
 
-/// Writes what a case of this module gives, and says whether it has one of this kind.
+/// Writes the result of a case of this kind. `false`: this module has none of the kind.
 pub(crate) fn answer(
     alloc: Global,
     kind: &str,
@@ -211,8 +240,7 @@ pub(crate) fn answer(
         "escaped" => escapes(alloc, rest, out),
         "span" => span(alloc, rest, out),
         "history" => history(alloc, rest, out),
-        "troubles" => page(alloc, false, rest, out),
-        "html" => page(alloc, true, rest, out),
+        "troubles" | "html" | "says" => page(alloc, kind, rest, out),
         _ => return Ok(false),
     };
     written?;

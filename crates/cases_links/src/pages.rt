@@ -19,6 +19,7 @@ const GAUGES: Gauges = Gauges {
     up_since: 4,
     dialogues: 5,
     most_dialogues: 6,
+    most_places: 7,
     lines: 8,
     most_lines: 9,
 };

@@ -1,6 +1,6 @@
 -- What was counted in a period: the difference of what had been counted when it ended and when it began, by what was noted.
 -- Times are milliseconds since the run began, and a period of a width begins at each multiple of it.
-use Rattle.std.specs.Prelude.{◌≡◌, ◌<◌, ◌≤◌, ℕ, ◌+◌, ◌-◌, ◌/◌, List, [], ◌∷◌, nat_lt, slice_index, if◌then◌else◌}
+use Rattle.std.specs.Prelude.{◌≡◌, ◌<◌, ◌≤◌, ◌==◌, Bool, ℕ, ◌+◌, ◌-◌, ◌/◌, List, [], ◌∷◌, nat_lt, slice_index, if◌then◌else◌}
 use Rattle.std.specs.Vec.{vec_len}
 use Rattle.fp_page.specs.declared.spans.Span.{Span}
 
@@ -32,6 +32,10 @@ width_of span = span.width
 -- how many periods are kept before the one that goes on
 abbrev pub most_of : Span → ℕ
 most_of span = vec_len span.totals - 2
+
+-- the first period goes on, and none is over
+abbrev pub is_in_its_first_period : Span → Bool
+is_in_its_first_period span = span.period == 0
 
 -- a span of periods of this many milliseconds, of which this many are kept before the one that goes on
 abbrev pub IsSpan : Span → ℕ → ℕ → Type 0

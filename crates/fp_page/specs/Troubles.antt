@@ -1,5 +1,5 @@
 -- What is wrong with a run, by its numbers.
-use Rattle.std.specs.Prelude.{List, [], ◌∷◌, ◌++◌, Bool, ◌&&◌, flat_map, nat_lt, not, if◌then◌else◌}
+use Rattle.std.specs.Prelude.{List, [], ◌∷◌, ◌++◌, Bool, ◌&&◌, flat_map, nat_le, nat_lt, not, if◌then◌else◌}
 use Rattle.fp_counters.specs.Counted.{number_of}
 use Rattle.fp_counters.specs.declared.counter.Counter.{Counter}
 use Rattle.fp_counters.specs.declared.counter.Counter.TheVariants as counters
@@ -20,15 +20,17 @@ has_counted view counter = nat_lt 0 (number_of view.numbers.counters counter)
 abbrev pub is_down : LinkView → Bool
 is_down view = not view.numbers.gauges.is_up && nat_lt 0 view.numbers.gauges.up_since
 
--- the troubles of a link: four fifths of 4,096 dialogues are many
+-- the troubles of a link: more than four fifths of 4,096 dialogues are many, and at least seven eighths of 8,192 places
+-- for frames
 abbrev pub link_troubles : LinkView → List Trouble
 link_troubles view =
     trouble_if (is_down view) (troubles.LinkDown view.numbers.link)
     ++ (trouble_if view.hangs (troubles.LinkHangs view.numbers.link)
     ++ (trouble_if (has_counted view counters.LinesLost) (troubles.Gap view.numbers.link)
     ++ (trouble_if (nat_lt 3276 view.numbers.gauges.dialogues) (troubles.ManyDialogues view.numbers.link)
+    ++ (trouble_if (nat_le 7168 view.numbers.gauges.most_places) (troubles.ManyPlaces view.numbers.link)
     ++ (trouble_if (has_counted view counters.RefusedLimit) (troubles.Refused view.numbers.link)
-    ++ trouble_if (has_counted view counters.OutOfMemory) (troubles.OutOfMemory view.numbers.link)))))
+    ++ trouble_if (has_counted view counters.OutOfMemory) (troubles.OutOfMemory view.numbers.link))))))
 
 abbrev pub links_troubles : List LinkView → List Trouble
 links_troubles links = flat_map link_troubles links

@@ -32,14 +32,14 @@ fn add_table(
 
 /// The answers, by kind.
 pub(crate) fn add_answers(html: &mut Html, page: &PageNumbers<'_>) -> Result<(), AllocError> {
-    html.add(&[Piece::Fixed("<section><h2>Answers</h2>\n")])?;
+    html.add(&[Piece::Fixed("<section><h2>Components sent, by kind</h2>\n")])?;
     add_table(html, page, &answer_counters())?;
     html.add(&[Piece::Fixed("</section>\n")])
 }
 
 /// The Aborts, by cause.
 pub(crate) fn add_aborts(html: &mut Html, page: &PageNumbers<'_>) -> Result<(), AllocError> {
-    html.add(&[Piece::Fixed("<section><h2>Aborts sent</h2>\n")])?;
+    html.add(&[Piece::Fixed("<section><h2>Aborts sent, by cause</h2>\n")])?;
     add_table(html, page, &abort_counters())?;
     html.add(&[Piece::Fixed("</section>\n")])
 }

@@ -3,9 +3,6 @@
 ghost use Rattle.std.specs.Prelude.{◌≡◌, ◌<◌};
 ghost use Rattle.fp_page.specs.Numbers.{nearest, rate_text};
 ghost use Rattle.fp_page.specs.Pieces.{piece_text};
-ghost use Rattle.std.specs.Prelude.{◌≡◌, ◌<◌};
-ghost use Rattle.fp_page.specs.Numbers.{nearest, rate_text};
-ghost use Rattle.fp_page.specs.Pieces.{piece_text};
 
 use crate::bars::bar_length;
 use crate::html::{Html, Piece};
@@ -33,7 +30,7 @@ fn nearest(times: u64, number: u64, width: u64) -> u64
     u64::try_from(product / u128::from(width)).unwrap_or(u64::MAX)
 }
 
-/// What was counted in a period of this many milliseconds, as a rate a second: in tenths, and from 100 on as a whole number.
+/// The count of a period of this many milliseconds, as a rate a second: in tenths, and from 100 on as a whole number.
 fn rate(number: u64, width: u64) -> Piece<'static>
     requires { 0 < width }
     ensures { piece_text result ≡ rate_text number width }
@@ -63,43 +60,68 @@ fn highest(span: &Span) -> u64 {
     highest
 }
 
-/// The points of a curve, from the oldest period to the last one that is over. None, if all numbers are 0.
+/// A point of a curve: the number of the period in this place.
+fn add_point(html: &mut Html, place: u64, number: u64, highest: u64) -> Result<(), AllocError> {
+    let height = bar_length(number, highest, ROOM);
+    html.add(&[
+        Piece::Number(place),
+        Piece::Fixed(","),
+        Piece::Number(u64::from(ROOM).saturating_sub(height)),
+        Piece::Fixed(" "),
+    ])
+}
+
+/// The points of a curve, from the oldest period, in place 1, to the last one that is over. The first and the last number
+/// have a further point each beyond the edges of the picture. No points, if all numbers are 0.
 fn add_points(html: &mut Html, span: &Span, highest: u64) -> Result<(), AllocError> {
     if highest == 0 {
         return Ok(());
     }
-    for place in 0..span.most() {
-        let height = bar_length(span.number(span.most() - place), highest, ROOM);
-        html.add(&[
-            Piece::Number(place as u64),
-            Piece::Fixed(","),
-            Piece::Number(u64::from(ROOM).saturating_sub(height)),
-            Piece::Fixed(" "),
-        ])?;
+    let most = span.most();
+    add_point(html, 0, span.number(most), highest)?;
+    for place in 0..most {
+        let number = span.number(most - place);
+        add_point(html, (place as u64).saturating_add(1), number, highest)?;
     }
-    Ok(())
+    add_point(
+        html,
+        (most as u64).saturating_add(1),
+        span.number(1),
+        highest,
+    )
 }
 
-/// A curve under its name, with the highest rate.
+/// The highest rate of a span, in words.
+fn add_peak(html: &mut Html, span: &Span, highest: u64) -> Result<(), AllocError> {
+    if span.is_in_its_first_period() {
+        return html.add(&[Piece::Fixed("no peak yet")]);
+    }
+    let rate = rate(highest, span.width());
+    html.add(&[Piece::Fixed("peak "), rate, Piece::Fixed("/s")])
+}
+
+/// A curve over its name, with the highest rate. Its line rises from 0 and falls to 0 outside of the picture, so that no
+/// edge is drawn as a rise or a fall.
 fn add_curve(html: &mut Html, name: &'static str, span: &Span) -> Result<(), AllocError> {
     let highest = highest(span);
-    let last = span.most().saturating_sub(1) as u64;
+    let steps = span.most().saturating_sub(1) as u64;
+    let beyond = span.most().saturating_add(1) as u64;
     html.add(&[
-        Piece::Fixed("<figure><svg viewBox=\"0 0 "),
-        Piece::Number(last),
+        Piece::Fixed("<figure><svg viewBox=\"1 0 "),
+        Piece::Number(steps),
         Piece::Fixed(
             " 100\" preserveAspectRatio=\"none\" aria-hidden=\"true\"><polyline points=\"0,100 ",
         ),
     ])?;
     add_points(html, span, highest)?;
     html.add(&[
-        Piece::Number(last),
+        Piece::Number(beyond),
         Piece::Fixed(",100\"/></svg><figcaption>last "),
         Piece::Fixed(name),
-        Piece::Fixed("<br>most "),
-        rate(highest, span.width()),
-        Piece::Fixed("/s</figcaption></figure>\n"),
-    ])
+        Piece::Fixed("<br>"),
+    ])?;
+    add_peak(html, span, highest)?;
+    html.add(&[Piece::Fixed("</figcaption></figure>\n")])
 }
 
 /// The curves of the last minute, hour and day.

@@ -31,7 +31,7 @@ pub(crate) struct Html {
 }
 
 impl Html {
-    /// No text.
+    /// An empty text.
     pub(crate) fn new(alloc: Global) -> Html
         ensures { string_bytes result.text ≡ [] }
     {

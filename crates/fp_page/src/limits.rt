@@ -1,14 +1,17 @@
-//! The highest numbers of the links beside their limits, and the state of the log.
+//! The highest numbers of the links beside their limits, the state of the log, and the records.
 
-use crate::bars::add_row;
+use crate::bars::{add_number, add_row};
 use crate::html::{Html, Piece};
-use crate::troubles::MOST_DIALOGUES;
+use crate::troubles::{MANY_PLACES, MOST_DIALOGUES, MOST_PLACES};
 use crate::{LinkView, PageNumbers};
 use fp_counters::Counter;
-use fp_metrics::LinkNumbers;
 use std::alloc::AllocError;
 
-/// A row of a link, with the number that this name stands for, and a bar that is full at this limit.
+/// About as many log lines of a link find places while the device takes none, if its calls are ordinary: five lines each of
+/// 42,000 calls with one destination. Lines of long messages fill the places sooner.
+const LINES_OF_CALLS: u64 = 210_000;
+
+/// A row of a link: a number with its name, and a bar that is full at this limit.
 fn add_limit(
     html: &mut Html,
     link: u8,
@@ -21,46 +24,54 @@ fn add_limit(
     add_row(html, &name, number, limit)
 }
 
-/// The rows of a link, whose list has this many places for lines.
-fn add_link(html: &mut Html, numbers: &LinkNumbers, places: u64) -> Result<(), AllocError> {
-    let LinkNumbers { link, gauges, .. } = *numbers;
+/// The rows of a link.
+fn add_link(html: &mut Html, view: &LinkView<'_>) -> Result<(), AllocError> {
+    let link = view.numbers.link;
+    let gauges = &view.numbers.gauges;
+    let dialogues = gauges.most_dialogues;
+    add_limit(html, link, ": dialogues", dialogues, MOST_DIALOGUES)?;
+    let places = gauges.most_places;
+    add_limit(html, link, ": places for frames", places, MOST_PLACES)?;
     add_limit(
         html,
         link,
-        ": most dialogues",
-        gauges.most_dialogues,
-        MOST_DIALOGUES,
-    )?;
-    add_limit(
-        html,
-        link,
-        ": most log lines waiting",
+        ": log lines waiting",
         gauges.most_lines,
-        places,
+        LINES_OF_CALLS,
     )
 }
 
-/// The highest numbers of each link beside their limits: a full bar is a limit that was reached.
+/// The messages for which there was no room, as rows.
+fn add_refusals(html: &mut Html, page: &PageNumbers<'_>) -> Result<(), AllocError> {
+    let held_back = page.total(Counter::HeldBack);
+    let refused = page.total(Counter::RefusedLimit);
+    let lost = page.total(Counter::OutOfMemory);
+    html.add(&[Piece::Fixed("<table>\n")])?;
+    add_number(html, "messages held back", held_back)?;
+    add_number(html, "refused: a limit, or no memory", refused)?;
+    add_number(html, "lost: no memory", lost)?;
+    html.add(&[Piece::Fixed("</table>\n")])
+}
+
+/// The highest numbers of each link beside their limits, and what was refused.
 pub(crate) fn add_limits(html: &mut Html, page: &PageNumbers<'_>) -> Result<(), AllocError> {
     html.add(&[Piece::Fixed("<section><h2>Limits</h2>\n<table>\n")])?;
     for link in page.links {
-        add_link(html, &link.numbers, page.line_places)?;
+        add_link(html, link)?;
     }
     html.add(&[
         Piece::Fixed(
-            "</table>\n<p class=\"s\">A bar is full at 4,096 dialogues: no link holds more. A bar of log lines is full at ",
+            "</table>\n<p class=\"s\">The most seen at once since the run began. A bar is full at 4,096 dialogues and at 8,192 places for frames, the limits, and at ",
         ),
-        Piece::Number(page.line_places),
+        Piece::Number(LINES_OF_CALLS),
         Piece::Fixed(
-            ": the list of a link has no more places. Lines whose text is made, or made next, wait besides.</p>\n<p>",
+            " log lines that wait, those of 42,000 ordinary calls. Lines of long messages fill the room sooner. A place is held while a message is served, and until its answers are sent. From ",
         ),
-        Piece::Number(page.total(Counter::HeldBack)),
-        Piece::Fixed(" messages held back, "),
-        Piece::Number(page.total(Counter::RefusedLimit)),
-        Piece::Fixed(" refused since a limit was reached or memory ran out, "),
-        Piece::Number(page.total(Counter::OutOfMemory)),
-        Piece::Fixed(" lost as memory ran out</p></section>\n"),
-    ])
+        Piece::Number(MANY_PLACES),
+        Piece::Fixed(" places on, messages are held back.</p>\n"),
+    ])?;
+    add_refusals(html, page)?;
+    html.add(&[Piece::Fixed("</section>\n")])
 }
 
 /// The number of log lines that wait.
@@ -84,29 +95,25 @@ pub(crate) fn add_log(html: &mut Html, page: &PageNumbers<'_>) -> Result<(), All
     html.add(&[
         Piece::Fixed("<section><h2>Log</h2>\n<p>The log "),
         Piece::Fixed(state),
-        Piece::Fixed(": "),
-        Piece::Number(page.total(Counter::LinesWritten)),
-        Piece::Fixed(" lines written, "),
-        Piece::Number(lines_waiting(page)),
-        Piece::Fixed(" waiting, "),
-        Piece::Number(page.total(Counter::LinesLost)),
-        Piece::Fixed(
-            " lost</p>\n<p class=\"s\">Lost lines are counted once others are written. Until then counts of calls stand still.</p></section>\n",
-        ),
-    ])
+        Piece::Fixed(".</p>\n<table>\n"),
+    ])?;
+    add_number(html, "lines written", page.total(Counter::LinesWritten))?;
+    add_number(html, "lines waiting", lines_waiting(page))?;
+    add_number(html, "lines lost", page.total(Counter::LinesLost))?;
+    html.add(&[Piece::Fixed(
+        "</table>\n<p class=\"s\">Lost lines are counted once others are written. Calls whose lines are lost are never counted.</p></section>\n",
+    )])
 }
 
-/// From which records calls are answered.
+/// The records that calls are answered from.
 pub(crate) fn add_records(html: &mut Html, page: &PageNumbers<'_>) -> Result<(), AllocError> {
     let (numbers, rules) = page.counts;
+    html.add(&[Piece::Fixed("<section><h2>Records in use</h2>\n<table>\n")])?;
+    add_number(html, "numbers", u64::from(numbers))?;
+    add_number(html, "rules", u64::from(rules))?;
+    add_number(html, "reloads so far", page.reloads)?;
     html.add(&[
-        Piece::Fixed("<section><h2>Records</h2>\n<p>"),
-        Piece::Number(u64::from(numbers)),
-        Piece::Fixed(" numbers, "),
-        Piece::Number(u64::from(rules)),
-        Piece::Fixed(" rules; reloads so far: "),
-        Piece::Number(page.reloads),
-        Piece::Fixed("</p>\n<p class=\"s\">SHA-256 <code>"),
+        Piece::Fixed("</table>\n<p class=\"s\">SHA-256 <code>"),
         Piece::Text(page.records),
         Piece::Fixed("</code></p></section>\n"),
     ])

@@ -1,5 +1,6 @@
 //! The links of the page.
 
+use crate::bars::add_number;
 use crate::curves::{add_curves, rate_now};
 use crate::html::{Html, Piece};
 use crate::{LinkView, PageNumbers};
@@ -29,10 +30,10 @@ fn add_state(html: &mut Html, link: &LinkView<'_>) -> Result<(), AllocError> {
     ])
 }
 
-/// The peer of a link, and since when it is up or down, if a peer was ever connected.
+/// The peer of a link, and since when it is up or down: two lines, also if no peer was ever connected.
 fn add_peer(html: &mut Html, link: &LinkView<'_>) -> Result<(), AllocError> {
     if link.numbers.gauges.up_since == 0 {
-        return Ok(());
+        return html.add(&[Piece::Fixed("<p class=\"s\">no connection yet<br>&nbsp;</p>\n")]);
     }
     html.add(&[
         Piece::Fixed("<p class=\"s\">"),
@@ -43,6 +44,15 @@ fn add_peer(html: &mut Html, link: &LinkView<'_>) -> Result<(), AllocError> {
     ])
 }
 
+/// The rate of calls of a link now: none if it isn't up, although it had calls in the last period.
+fn calls_now(link: &LinkView<'_>) -> Piece<'static> {
+    if link.numbers.gauges.is_up {
+        rate_now(link.calls.minute())
+    } else {
+        Piece::Tenths(0)
+    }
+}
+
 /// A link: its state, its numbers and its curves.
 fn add_link(html: &mut Html, link: &LinkView<'_>) -> Result<(), AllocError> {
     html.add(&[Piece::Fixed("<section>\n")])?;
@@ -50,15 +60,15 @@ fn add_link(html: &mut Html, link: &LinkView<'_>) -> Result<(), AllocError> {
     add_peer(html, link)?;
     html.add(&[
         Piece::Fixed("<p><strong>"),
-        rate_now(link.calls.minute()),
-        Piece::Fixed("</strong> calls/s now, "),
-        Piece::Number(link.numbers.counters.number(Counter::Opened)),
-        Piece::Fixed(" in all, "),
-        Piece::Number(link.numbers.gauges.dialogues),
-        Piece::Fixed(" dialogues open</p>\n"),
+        calls_now(link),
+        Piece::Fixed("</strong> calls a second now</p>\n"),
     ])?;
     add_curves(html, link.calls)?;
-    html.add(&[Piece::Fixed("</section>\n")])
+    html.add(&[Piece::Fixed("<table>\n")])?;
+    let calls = link.numbers.counters.number(Counter::Opened);
+    add_number(html, "calls in all", calls)?;
+    add_number(html, "dialogues open", link.numbers.gauges.dialogues)?;
+    html.add(&[Piece::Fixed("</table>\n</section>\n")])
 }
 
 /// All links.

@@ -9,9 +9,9 @@ use fp_metrics::LinkNumbers;
 pub struct LinkView<'a> {
     /// The counters of the link, and its current values.
     pub numbers: LinkNumbers,
-    /// Its peer; an empty text if none was connected yet.
+    /// The peer of the link; an empty text if none was connected yet.
     pub peer: &'a str,
-    /// Since when it is up, or down; an empty text if no peer was connected yet.
+    /// The moment since which the link is up, or down; an empty text if no peer was connected yet.
     pub since: &'a str,
     /// Messages that opened a dialogue.
     pub calls: &'a History,
@@ -45,14 +45,12 @@ pub struct PageNumbers<'a> {
     pub reloads: u64,
     /// The times from the read of a message to the write of its answer, of a sample.
     pub answer_times: Histogram,
-    /// Its links.
+    /// The links of the run.
     pub links: &'a [LinkView<'a>],
     /// The history of all links together.
     pub history: RunHistory<'a>,
     /// The log can't be written, and lines are lost.
     pub log_fails: bool,
-    /// How many places the list has in which lines of a link wait for their text.
-    pub line_places: u64,
     /// The thread that writes the log hasn't moved for ten seconds.
     pub log_hangs: bool,
     /// The run is a node on a signalling network, and none of its units has a connection.

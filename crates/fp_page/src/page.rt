@@ -2,18 +2,18 @@
 
 use crate::answers::{add_aborts, add_answers};
 use crate::events::add_events;
-use crate::heading::{add_run, add_top, add_troubles};
+use crate::heading::{add_run, add_title, add_top, add_troubles};
 use crate::html::{Html, Piece};
 use crate::limits::{add_limits, add_log, add_records};
 use crate::links::add_links;
-use crate::style::{ending, opening};
+use crate::style::{ending, opening, style};
 use crate::times::add_times;
 use crate::{PageNumbers, Trouble, troubles_of};
 use std::alloc::{AllocError, Global};
 
 /// The part below the links.
 fn add_numbers(html: &mut Html, page: &PageNumbers<'_>) -> Result<(), AllocError> {
-    html.add(&[Piece::Fixed("<h2>The run</h2>\n<div class=\"g\">\n")])?;
+    html.add(&[Piece::Fixed("<h2>The run</h2>\n<div class=\"c\">\n")])?;
     add_answers(html, page)?;
     add_aborts(html, page)?;
     add_times(html, &page.answer_times)?;
@@ -31,8 +31,10 @@ fn add_page(
     troubles: &[Trouble],
 ) -> Result<(), AllocError> {
     html.add(&[Piece::Fixed(opening())])?;
+    add_title(html, troubles.len())?;
+    html.add(&[Piece::Fixed(style())])?;
     add_top(html, page)?;
-    add_troubles(html, troubles)?;
+    add_troubles(html, page, troubles)?;
     add_run(html, page)?;
     add_links(html, page)?;
     add_numbers(html, page)?;

@@ -34,7 +34,7 @@ fn move_back(totals: &mut [u64], places: usize)
 }
 
 impl Span {
-    ghost use Rattle.fp_page.specs.Spans.{IsNext, Note, Shows, counted, most_of, width_of};
+    ghost use Rattle.fp_page.specs.Spans.{IsNext, Note, Shows, counted, is_in_its_first_period, most_of, width_of};
 
     /// A span of zeros. A period has `width` milliseconds, and `most` periods are kept before the current one.
     pub fn new(alloc: Global, width: u64, most: u16) -> Result<Span, AllocError>
@@ -65,6 +65,13 @@ impl Span {
         ensures { result ≡ most_of self.now }
     {
         self.totals.len() - 2
+    }
+
+    /// Whether the current period is the first one, so that none is over.
+    pub(crate) fn is_in_its_first_period(&self) -> bool
+        ensures { result ≡ is_in_its_first_period self.now }
+    {
+        self.period == 0
     }
 
     /// Notes a total since the run began, at this time in milliseconds since then.

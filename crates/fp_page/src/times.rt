@@ -90,9 +90,9 @@ pub(crate) fn add_times(html: &mut Html, times: &Histogram) -> Result<(), AllocE
         Piece::Fixed(half),
         Piece::Fixed(", 99 in 100 within "),
         Piece::Fixed(most),
-        Piece::Fixed(", of "),
+        Piece::Fixed(". Measured: "),
         Piece::Number(count),
-        Piece::Fixed(" that were measured.</p>\n"),
+        Piece::Fixed(".</p>\n"),
     ])?;
     add_buckets(html, times, count)?;
     html.add(&[Piece::Fixed("</section>\n")])

@@ -13,6 +13,12 @@ pub(crate) const MOST_DIALOGUES: u64 = 4_096;
 /// More dialogues than this are near that limit: four fifths of it.
 const MANY_DIALOGUES: u64 = 3_276;
 
+/// The places for frames of a link, `fp_book::Outbox::MOST_FRAMES`. A copy, since nothing else here needs that crate.
+pub(crate) const MOST_PLACES: u64 = 8_192;
+
+/// From this number of held places on messages are held back: `fp_book::Book::MANY_PLACES`.
+pub(crate) const MANY_PLACES: u64 = 7_168;
+
 /// A trouble of a run.
 #[derive(Clone, Copy, Debug, PartialEq, Eq)]
 pub enum Trouble {
@@ -32,6 +38,8 @@ pub enum Trouble {
     Gap(u8),
     /// The link of this number holds more than four fifths of the dialogues that it may.
     ManyDialogues(u8),
+    /// At least seven eighths of the places for frames of the link of this number were held.
+    ManyPlaces(u8),
     /// Messages of the link of this number were refused, since a limit was reached.
     Refused(u8),
     /// Memory ran out for messages of the link of this number.
@@ -62,6 +70,8 @@ fn push_link(out: &mut Vec<Trouble>, view: &LinkView<'_>) -> Result<(), AllocErr
     push_if(out, lost > 0, Trouble::Gap(link))?;
     let are_many = gauges.dialogues > MANY_DIALOGUES;
     push_if(out, are_many, Trouble::ManyDialogues(link))?;
+    let are_held = gauges.most_places >= MANY_PLACES;
+    push_if(out, are_held, Trouble::ManyPlaces(link))?;
     let refused = counters.number(Counter::RefusedLimit);
     push_if(out, refused > 0, Trouble::Refused(link))?;
     let without_memory = counters.number(Counter::OutOfMemory);
