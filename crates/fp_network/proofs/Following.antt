@@ -12,10 +12,12 @@ use Rattle.fp_frames.specs.Frame.{IsMessageLength, framed}
 use Rattle.fp_frames.specs.Stream.{Begins, Frames}
 use Rattle.fp_network.specs.declared.connection.Connection.{Connection}
 use Rattle.fp_network.specs.declared.node.Node.{Node}
+use Rattle.fp_network.specs.declared.tally.Tally.{Tally}
 use Rattle.fp_network.specs.Changes.{closing}
 use Rattle.fp_network.specs.Counting.{Counts}
 use Rattle.fp_network.specs.Forwarding.{Forwards, ForwardsEach}
 use Rattle.fp_network.specs.Node.{LeavesLink, WaitsOn, connection_at, connection_in, is_over_at, is_over_of, refusal_of, waiting_of}
+use Rattle.fp_network.specs.Receiving.{SkipsNone}
 use Rattle.fp_network.proofs.Tallied.{counts_more, counts_none}
 use Rattle.fp_network.proofs.Waits.{stays_more, waits_same}
 
@@ -115,14 +117,15 @@ pub record Followed (old : Node) (octets : List ℕ) (new : Node) : Type 0 where
   pub draining : new.is_draining ≡ old.is_draining
   pub count : length new.places.items ≡ length old.places.items
   pub counted : Counts old new
+  pub skipped : SkipsNone old new
 
 -- one more is
 pub followed_more : (old mid next new : Node) (octets message : List ℕ) → Followed old octets mid
     → Begins mid.from_link message next.from_link → next.places ≡ mid.places → next.adaptor ≡ mid.adaptor → next.to_link ≡ mid.to_link
     → next.names.items ≡ mid.names.items → next.is_draining ≡ mid.is_draining → next.tally ≡ mid.tally → next.news ≡ mid.news → LeavesLink next new → WaitsOn next new
-    → Counts next new → ((setting : Setting) (before : List Event) → Led next.adaptor setting before → Forwards setting before message next new)
+    → Counts next new → SkipsNone next new → ((setting : Setting) (before : List Event) → Led next.adaptor setting before → Forwards setting before message next new)
     → Followed old octets new
-followed_more old mid next new octets message so begins places own link names draining tally news leaves rest counted forward = record {
+followed_more old mid next new octets message so begins places own link names draining tally news leaves rest counted skipped forward = record {
   forwards = (
     so.forwards.0 ++ message ∷ [],
     subst (λ (left : List ℕ). Frames (old.from_link ++ octets) (so.forwards.0 ++ message ∷ []) left) (sym leaves.from_link)
@@ -139,4 +142,5 @@ followed_more old mid next new octets message so begins places own link names dr
   count = leaves.count ∙ ap (λ places. length places.items) places ∙ so.count;
   counted = counts_more old mid new so.count so.counted
       (counts_more mid next new (ap (λ places. length places.items) places) (counts_none mid next places tally news) counted);
+  skipped = skipped ∙ ap (λ (t : Tally). t.skipped) tally ∙ so.skipped;
 }

@@ -1,20 +1,76 @@
--- Events that weren't returned are still the next ones.
-use Rattle.std.proofs.Common.{◌≡◌, [], ◌∷◌, ◌++◌, append_assoc, append-nil, inl, inr, sym, ap, ◌∙◌}
+-- Events that weren't returned are still the next ones, and those of a call follow them.
+use Rattle.std.proofs.Common.{◌≡◌, ◌≤◌, ℕ, cond, List, [], ◌∷◌, ◌++◌, Ok, Err, OnErr, Result, is_ok, length, length-append, append_assoc, append-nil, arith, inl, inr, refl, sym, ap, ◌∙◌}
+use Rattle.std.specs.VecDeque.{deque_capacity}
 use Rattle.fp_network.specs.declared.event.NetworkEvent.{NetworkEvent}
 use Rattle.fp_network.specs.declared.node.Node.{Node}
-use Rattle.fp_network.specs.Counting.{NewsGrow, Notes}
+use Rattle.fp_network.specs.Counting.{AreSome, NewsGrow, Notes}
 
 pub news_same : (old new : Node) → new.news ≡ old.news → NewsGrow old new
 news_same old new same = record { more = []; grow = ap (λ news. news.items) same ∙ sym (append-nil old.news.items) }
 
-pub news_noted : (event : NetworkEvent) (old new : Node) → Notes event old new → NewsGrow old new
-news_noted event old new so = elim so [
-  | inl is ↦ record { more = event ∷ []; grow = is }
-  | inr is ↦ record { more = []; grow = is ∙ sym (append-nil old.news.items) }
-]
+pub news_noted : (events : List NetworkEvent) (old new : Node) → Notes events old new → NewsGrow old new
+news_noted events old new so = record { more = so.more; grow = so.grow }
 
 pub news_then : (old mid new : Node) → NewsGrow old mid → NewsGrow mid new → NewsGrow old new
 news_then old mid new first then = record {
   more = first.more ++ then.more;
   grow = then.grow ∙ ap (λ l. l ++ then.more) first.grow ∙ append_assoc old.news.items first.more then.more;
 }
+
+-- an event is added, or memory ran out for it
+pub noted : {T E : Type 0} (event : NetworkEvent) (old new : Node) (result : Result T E) (count : ℕ) → count ≡ length old.news.items
+    → new.news.items ≡ cond (is_ok result) (old.news.items ++ event ∷ []) old.news.items
+    → OnErr result (deque_capacity old.news ≤ count) → deque_capacity old.news ≤ deque_capacity new.news → Notes (event ∷ []) old new
+noted event old new (Ok value) count counted is full room =
+    record { more = event ∷ []; grow = is; some = inl (refl, tt); all = inl refl; room = room }
+noted event old new (Err fault) count counted is full room =
+    let same = ap length is in
+    record { more = []; grow = is ∙ sym (append-nil old.news.items); some = tt; all = inr (omega (arith, same, counted, full)); room = room }
+
+-- events are added to those of a node that has the same ones
+pub notes_from : (events : List NetworkEvent) (old mid new : Node) → mid.news ≡ old.news → Notes events mid new → Notes events old new
+notes_from events old mid new same so = record {
+  more = so.more;
+  grow = so.grow ∙ ap (λ news. news.items ++ so.more) same;
+  some = so.some;
+  all = elim so.all [
+    | inl is ↦ inl is
+    | inr full ↦ inr (omega (arith, room, full))
+  ];
+  room = let more = so.room in omega (arith, room, more);
+}
+  where
+    room : deque_capacity mid.news ≡ deque_capacity old.news
+    room = ap deque_capacity same
+
+-- events are added, and then others
+some_after : (events some others : List NetworkEvent) → AreSome some others → AreSome some (events ++ others)
+some_after [] some others are = are
+some_after (event ∷ events) [] others are = tt
+some_after (event ∷ events) (one ∷ some) others are = inr (some_after events (one ∷ some) others are)
+
+some_then : (events some others more : List NetworkEvent) → AreSome some events → AreSome more others → AreSome (some ++ more) (events ++ others)
+some_then events [] others more first then = some_after events more others then
+some_then [] (one ∷ some) others more first then = absurd first
+some_then (event ∷ events) (one ∷ some) others more first then = elim first [
+  | inl is ↦ inl (is.0, some_then events some others more is.1 then)
+  | inr are ↦ inr (some_then events (one ∷ some) others more are then)
+]
+
+pub notes_then : (events others : List NetworkEvent) (old mid new : Node) → Notes events old mid → Notes others mid new → Notes (events ++ others) old new
+notes_then events others old mid new first then = record {
+  more = first.more ++ then.more;
+  grow = then.grow ∙ ap (λ l. l ++ then.more) first.grow ∙ append_assoc old.news.items first.more then.more;
+  some = some_then events first.more others then.more first.some then.some;
+  all = elim first.all [
+    | inl is ↦ elim then.all [
+      | inl same ↦ inl (λ i. is i ++ same i)
+      | inr full ↦ inr (let room = first.room in omega (arith, room, full))
+    ]
+    | inr full ↦ inr (omega (arith, full, long))
+  ];
+  room = let one = first.room in let other = then.room in omega (arith, one, other);
+}
+  where
+    long : length mid.news.items ≤ length new.news.items
+    long = let is = ap length then.grow ∙ length-append mid.news.items then.more in omega (arith, is)

@@ -1,5 +1,5 @@
 -- Each connection that is closed is counted once.
-use Rattle.std.proofs.Common.{◌≡◌, ℕ, zero, suc, ◌<◌, Bool, true, false, not, ◌&&◌, nat_eq, List, Option, Some, None, arith, inl, inr, length, is_some, refl, sym, subst, ap, ◌∙◌}
+use Rattle.std.proofs.Common.{◌≡◌, ℕ, zero, suc, ◌<◌, Bool, true, false, not, ◌&&◌, nat_eq, List, [], ◌∷◌, Option, Some, None, arith, inl, inr, length, is_some, refl, sym, subst, ap, ◌∙◌}
 use Rattle.std.proofs.lemmas.Bool.{cases_Bool, cases_lt, eqb-false, eqb-true, false≢true}
 use Rattle.std.proofs.lemmas.List.{get_or_past}
 use Rattle.std.specs.Option.{option_map}
@@ -238,7 +238,7 @@ pub counts_one : (why : Closing) (place : ℕ) (old new : Node) → connection_i
     → LeavesOthers place old new → (is_over_at old place ≡ true → new.tally ≡ old.tally)
     → (is_over_at old place ≡ false → (other : Closing) → closings_of new.tally other ≡ closed_once_more why other (closings_of old.tally other))
     → (is_over_at old place ≡ true → new.news ≡ old.news)
-    → (is_over_at old place ≡ false → (number : ℕ) × (number_of (connection_in old place) ≡ Some number) × Notes (Gone number why) old new)
+    → (is_over_at old place ≡ false → (number : ℕ) × (number_of (connection_in old place) ≡ Some number) × Notes (Gone number why ∷ []) old new)
     → new.tally.connections ≡ old.tally.connections → Counts old new
 counts_one why place old new here others stays counts silent reports connections = elim (cases_Bool (is_over_at old place)) [
   | inl over ↦ counts_same old new (λ other. ap (λ (t : Tally). closings_of t other) (stays over)) connections
@@ -252,7 +252,7 @@ counts_one why place old new here others stays counts silent reports connections
         (λ away apart. not_closed other old new away (ap course_of (others away apart))));
     stay = λ other over. ap course_of (others other (λ is. false≢true (sym lives ∙ ap (is_over_at old) (sym is) ∙ over)));
     connections = connections;
-    news = let report = reports lives in news_noted (Gone report.0 why) old new report.2;
+    news = let report = reports lives in news_noted (Gone report.0 why ∷ []) old new report.2;
   }
 ]
   where

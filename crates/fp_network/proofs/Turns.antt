@@ -1,24 +1,22 @@
 -- A turn looks at each place in one step.
-use Rattle.std.proofs.Common.{◌≡◌, ◌<◌, ◌≤◌, ◌+◌, ◌-◌, ℕ, ◌⊎◌, arith, inl, inr, refl, sym, ◌∙◌}
-use Rattle.std.proofs.lemmas.Bool.{cases_lt, cond_above, cond_below}
+use Rattle.std.proofs.Common.{◌≡◌, ◌<◌, ◌≤◌, ◌+◌, ◌-◌, ◌%◌, ℕ, ◌⊎◌, arith, inl, inr, sym, ◌∙◌}
+use Rattle.std.proofs.Math.Nat.{mod-eq-sub-mod, mod-eq_of_lt}
+use Rattle.std.proofs.lemmas.Bool.{cases_lt}
 use Rattle.fp_network.specs.Turns.{EachOnce, place_in_turn}
 
-before_end : (first place step : ℕ) → first + step ≡ place → place < 16 → place_in_turn first step ≡ place
-before_end first place step is below =
-    sym (cond_below (first + step) 16 (first + step) (first + step - 16) (omega (arith, is, below))) ∙ is
+pub before_end : (place : ℕ) → place < 16 → place % 16 ≡ place
+before_end place below = mod-eq_of_lt below
 
-past_end : (first place step : ℕ) → first + step ≡ place + 16 → place_in_turn first step ≡ place
-past_end first place step is =
-    sym (cond_above (first + step) 16 (first + step) (first + step - 16) place (omega (arith, is)) (omega (arith, is)))
+pub past_end : (place : ℕ) → 16 ≤ place → place < 32 → place % 16 ≡ place - 16
+past_end place above below = mod-eq-sub-mod above ∙ mod-eq_of_lt (omega (arith, above, below))
 
 -- a step leads to a place before the end or past it
-either : (first place step : ℕ) → place_in_turn first step ≡ place → (first + step ≡ place) ⊎ (first + step ≡ place + 16)
-either first place step is = elim (cases_lt (first + step) 16) [
-  | inl below ↦ inl (cond_below (first + step) 16 (first + step) (first + step - 16) below ∙ is)
+either : (first place step : ℕ) → first < 16 → step < 16 → place_in_turn first step ≡ place → (first + step ≡ place) ⊎ (first + step ≡ place + 16)
+either first place step low small is = elim (cases_lt (first + step) 16) [
+  | inl below ↦ inl (sym (before_end (first + step) below) ∙ is)
   | inr above ↦
-      let left : first + step - 16 ≡ place
-      = cond_above (first + step) 16 (first + step) (first + step - 16) (first + step - 16) above refl ∙ is in
-      inr (omega (arith, above, left))
+      let past = past_end (first + step) above (omega (arith, low, small)) in
+      inr (omega (arith, above, past, is))
 ]
 
 pub each_once : EachOnce
@@ -26,8 +24,8 @@ each_once first place low below = elim (cases_lt place first) [
   | inl less ↦ (
     place + 16 - first,
     omega (arith, low, less),
-    past_end first place (place + 16 - first) (omega (arith, low)),
-    λ other small is. elim (either first place other is) [
+    past_end (first + (place + 16 - first)) (omega (arith, low)) (omega (arith, low, below)) ∙ omega (arith, low),
+    λ other small is. elim (either first place other low small is) [
       | inl same ↦ absurd (omega (arith, same, less))
       | inr same ↦ omega (arith, same)
     ],
@@ -35,8 +33,8 @@ each_once first place low below = elim (cases_lt place first) [
   | inr above ↦ (
     place - first,
     omega (arith, below),
-    before_end first place (place - first) (omega (arith, above)) below,
-    λ other small is. elim (either first place other is) [
+    before_end (first + (place - first)) (omega (arith, above, below)) ∙ omega (arith, above),
+    λ other small is. elim (either first place other low small is) [
       | inl same ↦ omega (arith, same)
       | inr same ↦ absurd (omega (arith, same, small, above))
     ],

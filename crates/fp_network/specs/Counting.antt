@@ -1,10 +1,13 @@
 -- How the connections that a call closes are counted and reported.
-use Rattle.std.specs.Prelude.{◌≡◌, ℕ, zero, suc, ◌==◌, Bool, true, false, not, ◌&&◌, if◌then◌else◌, List, [], ◌∷◌, ◌++◌, ◌⊎◌, Option, Some, None, length}
+use Rattle.std.specs.Prelude.{◌≡◌, ℕ, zero, suc, ◌==◌, ◌≤◌, Bool, true, false, not, ◌&&◌, if◌then◌else◌, List, [], ◌∷◌, ◌++◌, ◌⊎◌, Option, Some, None, length}
+use Rattle.std.specs.VecDeque.{deque_capacity}
 use Rattle.fp_adaptor.specs.Counted.{one_more}
 use Rattle.fp_network.specs.declared.connection.Connection.{Connection}
 use Rattle.fp_network.specs.declared.course.Course.{Course}
 use Rattle.fp_network.specs.declared.event.Closing.{Closing}
+use Rattle.fp_network.specs.declared.event.Closing.TheVariants.{TooMany}
 use Rattle.fp_network.specs.declared.event.NetworkEvent.{NetworkEvent}
+use Rattle.fp_network.specs.declared.event.NetworkEvent.TheVariants.{Gone}
 use Rattle.fp_network.specs.declared.node.Node.{Node}
 use Rattle.fp_network.specs.Course.{closing_of}
 use Rattle.fp_network.specs.Node.{connection_in, is_over_at}
@@ -47,10 +50,26 @@ pub record NewsGrow (old new : Node) : Type 0 where
   pub more : List NetworkEvent
   pub grow : new.news.items ≡ old.news.items ++ more
 
--- this event follows the others; or no event does, as when memory runs out for it
-abbrev pub Notes : NetworkEvent → Node → Node → Type 0
-Notes event old new =
-    (new.news.items ≡ old.news.items ++ event ∷ []) ⊎ (new.news.items ≡ old.news.items)
+-- these are some of the events, in their order
+abbrev pub AreSome : List NetworkEvent → List NetworkEvent → Type 0
+AreSome [] events = Unit {0}
+AreSome (some ∷ more) [] = ⊥
+AreSome (some ∷ more) (event ∷ events) =
+    ((some ≡ event) × AreSome more events) ⊎ AreSome (some ∷ more) events
+
+-- These events follow those that weren't returned, in their order. An event is missing only if the others fill the room
+-- that there was before: then it takes memory, and that ran out. The room never shrinks.
+pub record Notes (events : List NetworkEvent) (old new : Node) : Type 0 where
+  pub more : List NetworkEvent
+  pub grow : new.news.items ≡ old.news.items ++ more
+  pub some : AreSome more events
+  pub all : (more ≡ events) ⊎ (deque_capacity old.news ≤ length new.news.items)
+  pub room : deque_capacity old.news ≤ deque_capacity new.news
+
+-- a connection of this number got no place, so that it is over at once
+abbrev pub gone_unless : ℕ → Option ℕ → List NetworkEvent
+gone_unless number None = Gone number TooMany ∷ []
+gone_unless number (Some place) = []
 
 -- the number of a connection, if there is one
 abbrev pub number_of : Option Connection → Option ℕ

@@ -118,8 +118,8 @@ impl Connection {
         self.course = closed(why, self.course);
     }
 
-    /// The node, which has this number of units, drains since this time. If the connection has the
-    /// common unit, the writing side is to be shut.
+    /// Notes that the node drains since this time. If the connection has the common unit, which is
+    /// the last of this number of units, its writing side is to be shut.
     pub(crate) fn drain(&mut self, units: usize, at: u64)
         ensures { self.new ≡ record self.old {
           course = drained (is_of_common units self.old.state) at self.old.course;
@@ -128,7 +128,7 @@ impl Connection {
         self.course = drained(self.is_of_common(units), at, self.course);
     }
 
-    /// The writing side was shut, if it was to be.
+    /// Notes that the writing side was shut, if it was to be shut.
     pub(crate) fn shut(&mut self)
         ensures { self.new ≡ record self.old { course = shut self.old.course } }
     {

@@ -29,7 +29,7 @@ pub enum Closing {
     Slow,
     /// The node drains.
     Draining,
-    /// Another 16 connections are there.
+    /// All 16 places for connections were taken.
     TooMany,
     /// The link is down.
     LinkDown,

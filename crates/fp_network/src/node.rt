@@ -8,7 +8,7 @@
 //! | `receiving.rt` | octets of connections, and the messages in them |
 //! | `forwarding.rt` | octets of the link, and the messages in them |
 
-ghost use Rattle.std.specs.Prelude.{◌≡◌, ℕ, List, [], ◌∷◌, false, true, None, Some, ◌<◌, is_none, IfOk, IfSome, OnOk, MatchOption, length};
+ghost use Rattle.std.specs.Prelude.{◌≡◌, ℕ, List, [], ◌∷◌, false, true, None, Some, ◌<◌, is_none, IfOk, IfSome, OnErr, OnOk, MatchOption, length};
 ghost use Rattle.std.specs.Option.{option_map};
 ghost use Rattle.fp_adaptor.specs.declared.setting.Setting.{Setting};
 ghost use Rattle.fp_adaptor.specs.Adaptor.{Led};
@@ -17,11 +17,11 @@ ghost use Rattle.fp_adaptor.specs.Counted.{count_after, one_more};
 ghost use Rattle.fp_adaptor.specs.declared.counts.Counted.{Counted};
 ghost use Rattle.fp_adaptor.specs.History.{Event, connection_after, ended};
 ghost use Rattle.fp_network.specs.Changes.{closing};
-ghost use Rattle.fp_network.specs.Counting.{NewsGrow, Notes, number_of};
+ghost use Rattle.fp_network.specs.Counting.{Notes, gone_unless, number_of};
 ghost use Rattle.fp_network.specs.Endings.{IsTied, KeepsTied};
 ghost use Rattle.fp_network.specs.Node.{Came, IsFree, IsFull, LeavesLink, LeavesOthers, connection_at, connection_in, for_link, is_over_at, setting_of};
 ghost use Rattle.fp_network.specs.declared.event.Closing.{Closing};
-ghost use Rattle.fp_network.specs.declared.event.NetworkEvent.TheVariants.{Gone};
+ghost use Rattle.fp_network.specs.declared.event.NetworkEvent.TheVariants as events;
 ghost use Rattle.fp_network.specs.Receiving.{SkipsNone};
 ghost use Rattle.fp_network.specs.Tally.{closed_once_more, closings_of, messages_of, refused_unless};
 ghost use Rattle.fp_network.specs.Units.{own_first};
@@ -118,7 +118,7 @@ impl Node {
         ensures places { self.new.places ≡ self.old.places }
         ensures adaptor { self.new.adaptor ≡ self.old.adaptor }
         ensures tally { self.new.tally ≡ self.old.tally }
-        ensures news { Notes event self.old self.new }
+        ensures news { Notes (event ∷ []) self.old self.new }
     {
         let _ = self.news.push_back(event);
     }
@@ -217,7 +217,9 @@ impl Node {
         ensures skipped { SkipsNone self.old self.new }
         ensures link { LeavesLink self.old self.new }
         ensures adaptor { self.new.adaptor ≡ self.old.adaptor }
-        ensures news { NewsGrow self.old self.new }
+        ensures news { IfOk result (λ place. Notes (events.Came self.new.tally.connections peer
+            ∷ gone_unless self.new.tally.connections place) self.old self.new) }
+        ensures silent { OnErr result (self.new.news ≡ self.old.news) }
         ensures tied { OnOk result (KeepsTied self.old self.new) }
     {
         let number = self.tally.connection();
@@ -245,7 +247,7 @@ impl Node {
             ≡ closed_once_more why other (closings_of self.old.tally other) }
         ensures connections { self.new.tally.connections ≡ self.old.tally.connections }
         ensures skipped { SkipsNone self.old self.new }
-        ensures news { Notes (Gone connection why) self.old self.new }
+        ensures news { Notes (events.Gone connection why ∷ []) self.old self.new }
     {
         self.tally.closing(why);
         self.note(NetworkEvent::Gone { connection, why });
@@ -300,7 +302,7 @@ impl Node {
         ensures skipped { SkipsNone self.old self.new }
         ensures reported { is_over_at self.old place ≡ false → (number : ℕ)
             × (number_of (connection_in self.old place) ≡ Some number)
-            × Notes (Gone number why) self.old self.new }
+            × Notes (events.Gone number why ∷ []) self.old self.new }
         ensures silent { is_over_at self.old place ≡ true → self.new.news ≡ self.old.news }
         ensures tied { KeepsTied self.old self.new }
     {

@@ -1,24 +1,26 @@
 //! How the connections of a node go on to their end: the node drains, time goes by, or the link is
 //! down.
 
-ghost use Rattle.std.specs.Prelude.{◌≡◌, ℕ, List, false, true, None, Some, ◌<◌, length};
+ghost use Rattle.std.specs.Prelude.{◌≡◌, ℕ, List, [], ◌∷◌, false, true, None, Some, ◌<◌, length};
 ghost use Rattle.std.specs.Bool.{Decides};
 ghost use Rattle.std.specs.Option.{option_map};
 ghost use Rattle.fp_adaptor.specs.declared.setting.Setting.{Setting};
 ghost use Rattle.fp_adaptor.specs.Adaptor.{Led};
 ghost use Rattle.fp_adaptor.specs.History.{Event};
-ghost use Rattle.fp_network.specs.declared.event.Closing.TheVariants.{LinkDown};
+ghost use Rattle.fp_network.specs.declared.event.Closing.TheVariants.{Draining, LinkDown};
+ghost use Rattle.fp_network.specs.declared.event.NetworkEvent.TheVariants.{Gone};
 ghost use Rattle.fp_network.specs.Changes.{closing, counting_read, draining, reading_late, shutting, ticking, writing};
-ghost use Rattle.fp_network.specs.Counting.{Counts};
+ghost use Rattle.fp_network.specs.Counting.{Counts, Notes, number_of};
 ghost use Rattle.fp_network.specs.Endings.{EndsClosed, KeepsTied};
+ghost use Rattle.fp_network.specs.Receiving.{SkipsNone};
 ghost use Rattle.fp_network.specs.Node.{ChangesEach, IsToShut, LeavesLink, LeavesOthers, connection_in, for_link, has_common_of, is_draining_at, is_late_of, is_read_out_of, overdue_of, waiting_at};
 
 use crate::{Closing, Node};
 use fp_adaptor::Setting;
 
 impl Node {
-    /// The node drains since this time. If the connection in a place has the common unit, its
-    /// writing side is to be shut.
+    /// Notes for the connection in a place that the node drains since this time. If the connection
+    /// has the common unit, its writing side is to be shut.
     fn drain_place(&mut self, place: usize, at: u64)
         ensures here { connection_in self.new place ≡ option_map
             (draining (length self.old.names.items) at) (connection_in self.old place) }
@@ -38,8 +40,8 @@ impl Node {
         connection.drain(units, at);
     }
 
-    /// The node drains since this time. The connection of the common unit is to be shut for
-    /// writing.
+    /// Notes for each connection that the node drains since this time. The connection of the
+    /// common unit is to be shut for writing.
     fn drain_places(&mut self, at: u64)
         ensures each { ChangesEach (draining (length self.old.names.items) at) self.old self.new }
         ensures link { LeavesLink self.old self.new }
@@ -95,8 +97,8 @@ impl Node {
         }
     }
 
-    /// The writing side of the connection in a place was shut, if it was to be. Nothing more is
-    /// written to it.
+    /// Notes that the writing side of the connection in a place was shut, if it was to be shut.
+    /// Nothing more is written to that connection.
     pub fn shut(&mut self, place: usize)
         ensures here { connection_in self.new place
             ≡ option_map shutting (connection_in self.old place) }
@@ -134,6 +136,7 @@ impl Node {
         ensures ended { EndsClosed self.old self.new }
         ensures link { LeavesLink self.old self.new }
         ensures counted { Counts self.old self.new }
+        ensures skipped { SkipsNone self.old self.new }
     {
         let Some(why) = self.overdue(place, at) else {
             return;
@@ -147,6 +150,7 @@ impl Node {
         ensures ended { EndsClosed self.old self.new }
         ensures link { LeavesLink self.old self.new }
         ensures counted { Counts self.old self.new }
+        ensures skipped { SkipsNone self.old self.new }
         ensures tied { KeepsTied self.old self.new }
     {
         for place in 0..self.places.len() {
@@ -206,6 +210,12 @@ impl Node {
         ensures ended { EndsClosed self.old self.new }
         ensures link { LeavesLink self.old self.new }
         ensures counted { Counts self.old self.new }
+        ensures skipped { SkipsNone self.old self.new }
+        ensures reported { is_read_out_of at found_no_more (connection_in self.old place) ≡ true
+            → (number : ℕ) × (number_of (connection_in self.old place) ≡ Some number)
+            × Notes (Gone number Draining ∷ []) self.old self.new }
+        ensures silent { is_read_out_of at found_no_more (connection_in self.old place) ≡ false
+            → self.new.news ≡ self.old.news }
         ensures tied { KeepsTied self.old self.new }
     {
         if self.is_read_out(place, at, found_no_more) {
@@ -226,8 +236,8 @@ impl Node {
         }
     }
 
-    /// Whether no connection has the common unit, but for those that are to be closed. Once the node
-    /// drains, no other one gets it.
+    /// Whether no connection has the common unit, except connections that are to be closed. Once
+    /// the node drains, no other connection gets that unit.
     pub fn has_no_common(&self) -> bool
         ensures { Decides result ((place : ℕ)
             → has_common_of (length self.now.names.items) (connection_in self.now place) ≡ false) }
@@ -246,6 +256,7 @@ impl Node {
         ensures ended { EndsClosed self.old self.new }
         ensures link { LeavesLink self.old self.new }
         ensures counted { Counts self.old self.new }
+        ensures skipped { SkipsNone self.old self.new }
         ensures tied { KeepsTied self.old self.new }
     {
         for place in 0..self.places.len() {

@@ -12,6 +12,7 @@ ghost use Rattle.fp_network.specs.Endings.{ClosesRefused, IsTied, KeepsTied};
 ghost use Rattle.fp_network.specs.Forwarding.{Forwards, ForwardsOctets, MakesWay, MakesWayFor, StopsBefore, StopsIn};
 ghost use Rattle.fp_network.specs.declared.fault.NetworkFault.TheVariants.{BadFrames};
 ghost use Rattle.fp_network.specs.Changes.{sending, writing};
+ghost use Rattle.fp_network.specs.Receiving.{SkipsNone};
 ghost use Rattle.fp_network.specs.Node.{LeavesLink, LeavesOthers, WaitsOn, connection_in, for_link, refusal_of};
 
 use crate::{Closing, NetworkFault, Node};
@@ -66,6 +67,7 @@ impl Node {
         ensures rest { WaitsOn self.old self.new }
         ensures link { LeavesLink self.old self.new }
         ensures counted { Counts self.old self.new }
+        ensures skipped { SkipsNone self.old self.new }
     {
         for _unit in 0..self.names.len() {
             let Some(place) = self.adaptor.sends_by() else {
@@ -92,6 +94,7 @@ impl Node {
         ensures rest { WaitsOn self.old self.new }
         ensures link { LeavesLink self.old self.new }
         ensures counted { Counts self.old self.new }
+        ensures skipped { SkipsNone self.old self.new }
     {
         if frame.octets().len() > MOST_DATA {
             return;
@@ -107,6 +110,7 @@ impl Node {
         ensures rest { OnOk result (WaitsOn self.old self.new) }
         ensures link { LeavesLink self.old self.new }
         ensures counted { OnOk result (Counts self.old self.new) }
+        ensures skipped { SkipsNone self.old self.new }
     {
         self.make_way_for(frame);
         match self.adaptor.send(frame)? {
@@ -153,6 +157,7 @@ impl Node {
         ensures draining { self.new.is_draining ≡ self.old.is_draining }
         ensures count { length self.new.places.items ≡ length self.old.places.items }
         ensures counted { OnOk result (Counts self.old self.new) }
+        ensures skipped { SkipsNone self.old self.new }
         ensures tied { OnOk result (KeepsTied self.old self.new) }
     {
         streams_have_one_list_of_frames();

@@ -86,8 +86,8 @@ impl Node {
         self.to_link.count() >= MANY_FOR_LINK
     }
 
-    /// Whether something waits to be written to the connection in a place, and it isn't to be
-    /// closed.
+    /// Whether octets wait to be written to the connection in a place, and the connection isn't to
+    /// be closed.
     fn has_waiting(&self, place: usize) -> bool
         ensures { result ≡ has_waiting_of (connection_in self.now place) }
     {
@@ -97,7 +97,7 @@ impl Node {
         !self.waiting(place).is_empty()
     }
 
-    /// Whether nothing waits to be written to any connection that isn't to be closed.
+    /// Whether no octets wait to be written to any connection that isn't to be closed.
     pub fn is_quiet(&self) -> bool
         ensures { Decides result ((place : ℕ)
             → has_waiting_of (connection_in self.now place) ≡ false) }

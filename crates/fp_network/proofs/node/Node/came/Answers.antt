@@ -1,9 +1,11 @@
-use Rattle.std.proofs.Common.{ap, refl, ◌∙◌}
+use Rattle.std.proofs.Common.{ℕ, [], ◌∷◌, ap, refl, subst, sym, ◌∙◌}
 use Rattle.fp_network.specs.declared.event.Closing.TheVariants.{TooMany}
+use Rattle.fp_network.specs.declared.event.NetworkEvent.TheVariants.{Came, Gone}
 use Rattle.fp_network.specs.declared.tally.Tally.{Tally}
+use Rattle.fp_network.specs.Counting.{Notes}
 use Rattle.fp_network.specs.Tally.{closed_once_more, closings_of}
 use Rattle.fp_network.proofs.Keeping.{free_over, keeps_away, keeps_places}
-use Rattle.fp_network.proofs.News.{news_noted, news_same, news_then}
+use Rattle.fp_network.proofs.News.{notes_from, notes_then}
 use Rattle.fp_network.proofs.node.Node.came.Goals as goal
 
 pub returns-in_default-clause-came : goal.returns-in_default-clause-came
@@ -27,17 +29,19 @@ pub returns-clause-counted : goal.returns-clause-counted
 returns-clause-counted c other =
     ap (λ (tally : Tally). closings_of tally other) (c.note-2.ensures.tally ∙ c.put.ensures.tally ∙ c.connection-number.ensures.counted)
 
+-- the number that the event has is the one that was counted
 pub returns-in_default-clause-news : goal.returns-in_default-clause-news
 returns-in_default-clause-news c =
-    news_then c.args.self.now c.note.new.self c.count_closing.new.self (news_noted _ _ _ c.note.ensures.news)
-    (news_noted _ _ _ c.count_closing.ensures.news)
-
-pub returns-in_err-connection-clause-news : goal.returns-in_err-connection-clause-news
-returns-in_err-connection-clause-news c = news_same _ _ refl
+    let refused = c.count_closing.ensures in
+    let is = refused.connections ∙ ap (λ (t : Tally). t.connections) (c.note.ensures.tally ∙ c.connection-number.ensures.counted) in
+    subst (λ (number : ℕ). Notes (Came number c.args.peer ∷ Gone number TooMany ∷ []) c.args.self.now c.count_closing.new.self) (sym is)
+    (notes_then _ _ c.args.self.now _ c.count_closing.new.self (notes_from _ c.args.self.now _ _ refl c.note.ensures.news) refused.news)
 
 pub returns-clause-news : goal.returns-clause-news
 returns-clause-news c =
-    news_then c.args.self.now c.put.new.self c.note-2.new.self (news_same _ _ c.put.ensures.news) (news_noted _ _ _ c.note-2.ensures.news)
+    let is = ap (λ (t : Tally). t.connections) (c.note-2.ensures.tally ∙ c.put.ensures.tally ∙ c.connection-number.ensures.counted) in
+    subst (λ (number : ℕ). Notes (Came number c.args.peer ∷ []) c.args.self.now c.note-2.new.self) (sym is)
+    (notes_from _ c.args.self.now _ _ c.put.ensures.news c.note-2.ensures.news)
 
 pub returns-in_default-clause-tied : goal.returns-in_default-clause-tied
 returns-in_default-clause-tied c =

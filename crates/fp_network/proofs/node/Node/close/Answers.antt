@@ -8,6 +8,7 @@ use Rattle.fp_network.specs.Tally.{closed_once_more, closings_of}
 use Rattle.fp_network.specs.Node.{connection_at}
 use Rattle.fp_network.proofs.Ending.{closes_one}
 use Rattle.fp_network.proofs.Keeping.{keeps_away, keeps_closed}
+use Rattle.fp_network.proofs.News.{notes_from}
 use Rattle.fp_network.proofs.node.Node.close.Goals as goal
 
 pub returns-in_default-clause-ended : goal.returns-in_default-clause-ended
@@ -32,7 +33,7 @@ returns-in_default-clause-reported c lives = absurd (false≢true (sym lives ∙
 
 pub returns-clause-reported : goal.returns-clause-reported
 returns-clause-reported c lives =
-    (c.in-Some.number, c.in-Some.ensures.is, rw c.finish.ensures.news at c.count_closing.ensures.news)
+    (c.in-Some.number, c.in-Some.ensures.is, notes_from _ c.args.self.now _ _ c.finish.ensures.news c.count_closing.ensures.news)
 
 pub returns-clause-silent : goal.returns-clause-silent
 returns-clause-silent c over = absurd (false≢true (sym c.in-Some.ensures.number ∙ over))

@@ -1,4 +1,4 @@
-use Rattle.std.proofs.Common.{◌≤◌, arith, length, refl}
+use Rattle.std.proofs.Common.{◌≤◌, arith, length, refl, ◌∙◌}
 use Rattle.fp_network.proofs.Changing.{changing_all, changing_more, changing_none}
 use Rattle.fp_network.proofs.Ending.{closes_more, closes_none, closes_one}
 use Rattle.fp_network.proofs.Leaves.{leaves_more, leaves_same}
@@ -7,7 +7,7 @@ use Rattle.fp_network.proofs.Keeping.{keeps_closed}
 use Rattle.fp_network.proofs.node.Node.close_all.Goals as goal
 
 pub loop-place-init : goal.loop-place-init
-loop-place-init c = record { so = changing_none _ _; ended = closes_none _; link = leaves_same _; counted = counts_none _ _ refl refl refl }
+loop-place-init c = record { so = changing_none _ _; ended = closes_none _; link = leaves_same _; counted = counts_none _ _ refl refl refl; skipped = refl }
 
 pub loop-place-preserved : goal.loop-place-preserved
 loop-place-preserved c =
@@ -19,6 +19,7 @@ loop-place-preserved c =
       link = leaves_more _ _ _ inv.link call.link;
       counted = counts_more _ _ _ inv.link.count inv.counted (counts_one _ _ _ _ call.here call.others call.uncounted call.counted
           call.silent call.reported call.connections);
+      skipped = call.skipped ∙ inv.skipped;
     }
 
 pub returns-clause-each : goal.returns-clause-each

@@ -20,6 +20,7 @@ loop-unit-init c = record {
   rest = stays_same _;
   link = leaves_same _;
   counted = counts_none _ _ refl refl refl;
+  skipped = refl;
   none = λ setting history led tied unit below. absurd (omega (arith, below));
 }
 
@@ -38,6 +39,7 @@ loop-unit-preserved c =
       counted = counts_more c.args.self.now c.loop-unit.self c.close.new.self inv.link.count inv.counted
           (counts_one _ _ c.loop-unit.self c.close.new.self close.here close.others close.uncounted close.counted close.silent
           close.reported close.connections);
+      skipped = close.skipped ∙ inv.skipped;
       none = λ setting history led tied.
           let way = inv.ended in
           let closed = way.0 in

@@ -7,6 +7,7 @@ use Rattle.fp_network.specs.Counting.{Counts}
 use Rattle.fp_network.specs.Endings.{ClosesRefused, IsTied}
 use Rattle.fp_network.specs.Forwarding.{MakesWay}
 use Rattle.fp_network.specs.Node.{LeavesLink, WaitsOn}
+use Rattle.fp_network.specs.Receiving.{SkipsNone}
 use Rattle.fp_network.proofs.node.Node.make_way.Given as goal
 
 -- connections that take no message were closed, among them those of the units so far
@@ -17,6 +18,7 @@ invariant-loop-unit l = record {
   rest : WaitsOn l.fn.self l.self;
   link : LeavesLink l.fn.self l.self;
   counted : Counts l.fn.self l.self;
+  skipped : SkipsNone l.fn.self l.self;
   none :
       (setting : Setting) (history : List Event) → Led l.fn.self.adaptor setting history → IsTied l.fn.self history
       → (unit : ℕ) → unit < l._unit → connection_at l.self.adaptor.connections.places.items unit ≡ None;

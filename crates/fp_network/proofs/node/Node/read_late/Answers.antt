@@ -1,9 +1,10 @@
 use Rattle.std.proofs.Common.{ap, refl, sym, ◌∙◌}
+use Rattle.std.proofs.lemmas.Bool.{false≢true}
 use Rattle.fp_network.specs.Changes.{counting_read}
 use Rattle.fp_network.specs.Counting.{course_of}
 use Rattle.fp_network.proofs.Ending.{closes_courses, closes_one}
 use Rattle.fp_network.proofs.Keeping.{keeps_closed}
-use Rattle.fp_network.proofs.Ticking.{reading_ends, reading_goes_on}
+use Rattle.fp_network.proofs.Ticking.{read_out_lives, reading_ends, reading_goes_on}
 use Rattle.fp_network.proofs.Tallied.{counts_at, counts_one, courses_at, courses_map}
 use Rattle.fp_network.proofs.node.Node.read_late.Goals as goal
 
@@ -39,3 +40,12 @@ returns-clause-counted c =
 
 pub returns-clause-tied : goal.returns-clause-tied
 returns-clause-tied c = keeps_closed _ _ (returns-clause-ended c)
+
+pub returns-then-is_read_out-clause-reported : goal.returns-then-is_read_out-clause-reported
+returns-then-is_read_out-clause-reported c out = c.close.ensures.reported (read_out_lives _ _ _ out)
+
+pub returns-then-is_read_out-clause-silent : goal.returns-then-is_read_out-clause-silent
+returns-then-is_read_out-clause-silent c stays = absurd (false≢true (sym stays ∙ sym c.is_read_out.ensures ∙ c.if-is_read_out.true))
+
+pub returns-clause-reported : goal.returns-clause-reported
+returns-clause-reported c out = absurd (false≢true (sym c.if-is_read_out.false ∙ c.is_read_out.ensures ∙ out))

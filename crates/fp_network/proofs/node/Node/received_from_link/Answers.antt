@@ -15,6 +15,7 @@ loop-frame-init c = record {
   draining = refl;
   count = refl;
   counted = counts_none _ _ refl refl refl;
+  skipped = refl;
 }
 
 -- a frame is dropped in two ways
@@ -24,7 +25,7 @@ loop-frame-preserved c =
     let forward = c.in_ok-forward.ensures in
     followed_more c.args.self.now c.loop-frame.self c.next_frame.new.self c.forward.new.self c.args.octets.now c.in-Some.frame
     c.loop-frame.invariant (rw c.in-Some.is at c.in_ok-frame.ensures.next) next.places next.adaptor next.link next.names next.draining
-    next.tally next.news forward.link forward.rest forward.counted forward.forwards
+    next.tally next.news forward.link forward.rest forward.counted forward.skipped forward.forwards
 
 pub loop-frame-preserved-in_ok-forward : goal.loop-frame-preserved-in_ok-forward
 loop-frame-preserved-in_ok-forward c =
@@ -32,7 +33,7 @@ loop-frame-preserved-in_ok-forward c =
     let forward = c.in_ok-forward.ensures in
     followed_more c.args.self.now c.loop-frame.self c.next_frame.new.self c.forward.new.self c.args.octets.now c.in-Some.frame
     c.loop-frame.invariant (rw c.in-Some.is at c.in_ok-frame.ensures.next) next.places next.adaptor next.link next.names next.draining
-    next.tally next.news forward.link forward.rest forward.counted forward.forwards
+    next.tally next.news forward.link forward.rest forward.counted forward.skipped forward.forwards
 
 pub returns-in_default-clause-forwards : goal.returns-in_default-clause-forwards
 returns-in_default-clause-forwards c =

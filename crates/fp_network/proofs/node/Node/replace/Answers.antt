@@ -2,6 +2,7 @@ use Rattle.std.proofs.Common.{Some, None, refl}
 use Rattle.fp_network.specs.declared.event.Closing.TheVariants.{Replaced}
 use Rattle.fp_network.proofs.Ending.{closed_led}
 use Rattle.fp_network.proofs.Hearing.{reads_closed}
+use Rattle.fp_network.proofs.News.{notes_from}
 use Rattle.fp_network.proofs.Waits.{stays_same, waits_closed}
 use Rattle.fp_network.proofs.Tallied.{counts_none, counts_one}
 use Rattle.fp_network.proofs.node.Node.replace.Goals as goal
@@ -40,4 +41,6 @@ pub returns-clause-counted : goal.returns-clause-counted
 returns-clause-counted c =
     let close = c.close.ensures in
     counts_one Replaced c.in-Some.earlier c.args.self.now c.close.new.self close.here close.others close.uncounted close.counted close.silent
-    close.reported close.connections
+    (λ lives.
+    let report = close.reported lives in
+    (report.0, report.1, notes_from _ c.args.self.now _ _ refl report.2)) close.connections

@@ -2,6 +2,7 @@ use Rattle.fp_network.specs.Changes.{ticking}
 use Rattle.fp_network.specs.Counting.{Counts}
 use Rattle.fp_network.specs.Endings.{EndsClosed}
 use Rattle.fp_network.specs.Node.{LeavesLink}
+use Rattle.fp_network.specs.Receiving.{SkipsNone}
 use Rattle.fp_network.proofs.Changing.{Changing}
 use Rattle.fp_network.proofs.node.Node.tick.Given as goal
 
@@ -12,4 +13,5 @@ invariant-loop-place l = record {
   ended : EndsClosed l.fn.self l.self;
   link : LeavesLink l.fn.self l.self;
   counted : Counts l.fn.self l.self;
+  skipped : SkipsNone l.fn.self l.self;
 }
