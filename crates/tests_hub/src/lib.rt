@@ -5,7 +5,7 @@
 //! tests show it. They are in a crate of their own so that `fp_hub` is proved once.
 //!
 //! * `walks`: one thread makes the calls of a script, a line each, and the words that they answer are compared. A test
-//!   names the first line whose words are others.
+//!   that fails names its script, and the first line whose words are others.
 //! * `relays`: one thread posts messages, workers serve them, another thread sends; the answers are compared octet by
 //!   octet.
 //! * `messages`: the records, the messages and their answers.

@@ -1,10 +1,10 @@
 //! One thread makes the calls of a hub, one after the other, as the lines of a script say.
 //!
 //! A line is `CALL => WORDS`: a call of the hub, and the words that it must answer; a line without ` => ` has a call that
-//! answers nothing. The first line whose words are others ends the walk, and the test names it. `SLEEP | CALL; CALL` lets
-//! another thread sleep for something (`sleeping`), makes these calls 50 milliseconds later, and answers how the sleep
-//! ended, and then the words of the calls. A line that begins with `+ ` is played only if foreign turns and parcels are
-//! brought, one with `- ` only if they aren't, and one with `# ` never.
+//! answers nothing. The first line whose words are others ends the walk, and the test names the script and this line.
+//! `SLEEP | CALL; CALL` lets another thread sleep for something (`sleeping`), makes these calls 50 milliseconds later,
+//! and answers how the sleep ended, and then the words of the calls. A line that begins with `+ ` is played only if
+//! foreign turns and parcels are brought, one with `- ` only if they aren't, and one with `# ` never.
 //!
 //! A `MESSAGE` is the identifier of a Begin with InitialDP, in hexadecimal digits, or a name of `messages`. Whatever else
 //! a call names is a number. What a call hands out stays at hand for the calls after it (`held`).
@@ -42,7 +42,6 @@ use fp_hub::{Hub, PARTS, finish};
 use fp_records::Table;
 use std::alloc::Global;
 use std::marker::Brand;
-use std::process::Abort;
 use std::rt::Clock;
 use std::sync::Wait;
 use std::sync::ledger::{Blank, Ledger};
@@ -54,6 +53,8 @@ use std::thread::Threads;
 struct Walk {
     link: u8,
     are_foreign_brought: bool,
+    // The name of the script, for the text about a failure.
+    name: &'static str,
     script: &'static str,
     totals: Totals,
 }
@@ -62,6 +63,7 @@ struct Walk {
 const WALK: Walk = Walk {
     link: 0,
     are_foreign_brought: false,
+    name: "",
     script: "",
     totals: Totals {
         accepted: 0,
@@ -108,17 +110,20 @@ fn walk_link<R: Threads + Wait + Clock + Sync>(
     walk_over::<R, Brand, Brand, Brand>(rt, alloc, blanks, table, walk)
 }
 
-/// Asserts that each line of a walk answers its words, and that as much is counted.
-fn assert_walk<R: Threads + Wait + Clock + Sync + Abort>(
+/// Asserts that each line of a walk answers its words, and that as much is counted. A failure names the script.
+fn assert_walk<R: Threads + Wait + Clock + Sync>(
     rt: &R,
     alloc: Global,
     walk: Walk,
 ) -> Result<(), Fail> {
     let table = Table::read(alloc, RECORDS.as_bytes())?;
-    let walked = walk_link(rt, alloc, &table, walk).ok_or("out of memory")?;
-    if let Some(fault) = walked.fault {
-        return Err(Fail::new(fault));
+    let Walked { fault, totals } = walk_link(rt, alloc, &table, walk).ok_or("out of memory")?;
+    let name = walk.name;
+    if let Some(fault) = fault {
+        return Err(Fail::new(format_args!("{name}, {fault}")));
     }
-    assert_eq!(rt; walked.totals, Some(walk.totals));
+    if totals != Some(walk.totals) {
+        return Err(Fail::new(format_args!("{name}: it counted {totals:?}")));
+    }
     Ok(())
 }

@@ -78,6 +78,7 @@ rest 100000 => woken
 fn each_call_makes_its_step(rt: HostRuntime) -> Result<(), Fail> {
     let walk = Walk {
         link: 3,
+        name: "EACH_CALL",
         script: EACH_CALL,
         totals: Totals {
             accepted: 1,
@@ -140,8 +141,13 @@ serve-all-in-place => no room
 /// not before: 513 messages of 16 calls have 8,208 answers, one of which is sent before that.
 #[test]
 fn free_places_are_hinted(rt: HostRuntime) -> Result<(), Fail> {
-    for script in [PLACES, PLACES_IN_SHARES, PLACES_IN_PLACE] {
+    for (name, script) in [
+        ("PLACES", PLACES),
+        ("PLACES_IN_SHARES", PLACES_IN_SHARES),
+        ("PLACES_IN_PLACE", PLACES_IN_PLACE),
+    ] {
         let walk = Walk {
+            name,
             script,
             totals: Totals {
                 accepted: 8_208,
@@ -175,6 +181,7 @@ hinted 0 => closed
 #[test]
 fn hints_wait_for_each_worker(rt: HostRuntime) -> Result<(), Fail> {
     let walk = Walk {
+        name: "HINTS",
         script: HINTS,
         ..WALK
     };

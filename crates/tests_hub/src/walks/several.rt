@@ -62,6 +62,7 @@ log => P T1 G1 P P P P T2 T1 B2 B1 T3 T4 G3 G4 T5 T2 G5 G2 T1 G1 T1 G1 T1 G1 T1 
 #[test]
 fn holds_make_several_steps(rt: HostRuntime) -> Result<(), Fail> {
     let walk = Walk {
+        name: "SEVERAL",
         script: SEVERAL,
         totals: Totals {
             accepted: 69,
@@ -112,9 +113,10 @@ log => P T1 G1 P P P P P T2 T1 T3 T4 T5 G2 G1 G3 G4 G5 Q2 Y2 Q3 Y3 Q4 Y4 Q5 N Y5
 /// link is down. All else is as without them.
 #[test]
 fn foreign_ones_change_nothing(rt: HostRuntime) -> Result<(), Fail> {
-    for are_foreign_brought in [false, true] {
+    for (name, are_foreign_brought) in [("FOREIGN", false), ("FOREIGN with them", true)] {
         let walk = Walk {
             are_foreign_brought,
+            name,
             script: FOREIGN,
             totals: Totals {
                 accepted: 5,
@@ -165,6 +167,7 @@ drain 27 => drained
 #[test]
 fn help_has_its_bound(rt: HostRuntime) -> Result<(), Fail> {
     let walk = Walk {
+        name: "HELP",
         script: HELP,
         totals: Totals {
             accepted: 9,
@@ -198,6 +201,7 @@ log => P P T41 G41 T42 G42
 #[test]
 fn turns_are_served_in_their_places(rt: HostRuntime) -> Result<(), Fail> {
     let walk = Walk {
+        name: "IN_PLACE",
         script: IN_PLACE,
         totals: Totals {
             accepted: 42,
@@ -227,6 +231,7 @@ drain 200 => drained
 #[test]
 fn closed_worker_gives_back_its_turns(rt: HostRuntime) -> Result<(), Fail> {
     let walk = Walk {
+        name: "CLOSED",
         script: CLOSED,
         totals: Totals {
             accepted: 40,

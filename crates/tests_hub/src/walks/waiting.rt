@@ -20,8 +20,9 @@ parcel | give-in-share; tell; pause 1100; down => woken given
 /// answered one of several messages, as the call that posted them says, and after turns were given back.
 #[test]
 fn sender_is_woken(rt: HostRuntime) -> Result<(), Fail> {
-    for (script, served) in [(ABORT, 0), (ANSWER, 2)] {
+    for (name, script, served) in [("ABORT", ABORT, 0), ("ANSWER", ANSWER, 2)] {
         let walk = Walk {
+            name,
             script,
             totals: Totals {
                 accepted: 1,
@@ -82,6 +83,7 @@ offer empty => aborted
 #[test]
 fn messages_are_held_back(rt: HostRuntime) -> Result<(), Fail> {
     let walk = Walk {
+        name: "HELD_BACK",
         script: HELD_BACK,
         totals: Totals {
             accepted: 7_236,
@@ -161,8 +163,12 @@ offer reject => held back
 /// room; if none comes, it sleeps for that time, and says so.
 #[test]
 fn waiting_threads_are_woken(rt: HostRuntime) -> Result<(), Fail> {
-    for (script, accepted, served) in [(WAKING, 184, 121), (IN_TIME, 80, 17)] {
+    for (name, script, accepted, served) in [
+        ("WAKING", WAKING, 184, 121),
+        ("IN_TIME", IN_TIME, 80, 17),
+    ] {
         let walk = Walk {
+            name,
             script,
             totals: Totals {
                 accepted,
@@ -195,8 +201,12 @@ quiet | down => woken
 /// A thread that sleeps until there is room, or the link is quiet, is woken when the link goes down.
 #[test]
 fn end_of_the_link_wakes(rt: HostRuntime) -> Result<(), Fail> {
-    for script in [DOWN_FOR_ROOM, DOWN_FOR_QUIET] {
+    for (name, script) in [
+        ("DOWN_FOR_ROOM", DOWN_FOR_ROOM),
+        ("DOWN_FOR_QUIET", DOWN_FOR_QUIET),
+    ] {
         let walk = Walk {
+            name,
             script,
             totals: Totals {
                 accepted: 64,
