@@ -8,8 +8,9 @@ import time
 
 import network
 
-# What these send is malformed by intention.
-MALFORMED = ("handshake", "hostile")
+# What the first two send is malformed by intention. The others send so much at once that segments of TCP cut messages, and
+# tshark's reader of IPA doesn't put these together.
+UNREADABLE = ("handshake", "hostile", "late", "crowded", "pressed")
 # Where IPA goes: between osmo-stp and the nodes, and between exchanges and osmo-stp.
 IPA_PORTS = (17000, *range(17101, 17113))
 
@@ -23,7 +24,7 @@ def take_network():
 
 def begin(options, name):
     """Begins a capture of what goes over IPA, and with --sctp over SCTP; None if none is wanted or no good."""
-    if options.capture is None or name in MALFORMED:
+    if options.capture is None or name in UNREADABLE:
         return None
     options.capture.mkdir(parents=True, exist_ok=True)
     path = options.capture / f"{name}.pcapng"
