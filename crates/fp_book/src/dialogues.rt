@@ -1,6 +1,6 @@
 //! Changes of one dialogue of a link.
 
-ghost use Rattle.std.specs.Prelude.{◌≡◌, ◌≢◌, ◌<◌, [], ◌↔◌, not, true, Some, IfErr, IfOk, IsOk, IsTrue, OnErr, ◌&&◌, if◌then◌else◌};
+ghost use Rattle.std.specs.Prelude.{◌≡◌, ◌≢◌, ◌<◌, [], ◌↔◌, not, true, None, Some, IfErr, IfOk, IsOk, IsTrue, OnErr, ◌&&◌, if◌then◌else◌};
 ghost use Rattle.std.specs.FinMap.{contains_key, get, remove};
 ghost use Rattle.fp_book.specs.Calls.{turn_of};
 ghost use Rattle.fp_book.specs.proof_only.Dialogues.{ClockedAt, EndsAt, ExtendsAt, GivesAt, HandsOutAt, OpensAt, PutsBackAt, SendsAt, ServesAt, Drops, drops_frames, is_due_at, is_unsent, left_as, takes_more};
@@ -91,7 +91,7 @@ fn keep(rows: &mut Rows, local: u32, is_held: bool)
     ensures { rows.new ≡ (if is_held then rows.old else remove rows.old local) }
 {
     if !is_held {
-        drop(rows.remove(local));
+        rows.forget(local);
     }
 }
 
@@ -251,7 +251,7 @@ pub(crate) fn extend(
 }
 
 /// Opens a dialogue with these entries: this end knows it by `local`, its peer by `peer`, and it is the `birth`-th of
-/// its link. If memory runs out, nothing changes, and the entries are lost.
+/// its link. There must be no dialogue under `local`. If memory runs out, nothing changes, and the entries are lost.
 pub(crate) fn open(
     alloc: Global,
     rows: &mut Rows,
@@ -261,16 +261,15 @@ pub(crate) fn open(
     moment: Moment,
     entries: Entries,
 ) -> Result<Left, AllocError>
+    requires { get rows.old local ≡ None }
     ensures ok { IfOk result (λ left. OpensAt rows.old local peer birth moment entries left rows.new) }
     ensures err { OnErr result (rows.new ≡ rows.old) }
 {
     let mut opened = Row::open(alloc, local, peer, birth, moment);
     opened.accept(entries)?;
     let left = Left::of(&opened);
-    match rows.insert(local, opened) {
-        Ok(()) => Ok(left),
-        Err(_) => Err(AllocError),
-    }
+    rows.add(local, opened)?;
+    Ok(left)
 }
 
 /// Gives a dialogue that is due a Clock of this moment, and returns whether it has become ready. If memory runs out,

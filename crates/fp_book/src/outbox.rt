@@ -1,6 +1,6 @@
 //! The frames that wait to be sent on a link.
 
-ghost use Rattle.std.specs.Prelude.{◌≡◌, ◌+◌, ◌++◌, ◌<◌, ◌≤◌, ◌↔◌, Some, IfErr, IfOk, IsOk, IsTrue, length, nat_le, nat_lt};
+ghost use Rattle.std.specs.Prelude.{◌≡◌, ◌+◌, [], ◌∷◌, ◌++◌, ◌<◌, ◌≤◌, ◌↔◌, Some, IfErr, IfOk, IsOk, IsTrue, length, nat_le, nat_lt};
 ghost use Rattle.std.specs.VecDeque.{deque_capacity};
 ghost use Rattle.fp_book.specs.Parcel.{is_frame_of};
 ghost use Rattle.fp_book.specs.proof_only.Sending.{dialogue_out};
@@ -51,6 +51,19 @@ fn push_all(waiting: &mut VecDeque<Waiting>, local: u32, birth: u64, frames: Vec
             frame,
         });
     }
+}
+
+/// Puts a frame of a dialogue after those that wait. There must be memory for it.
+fn push_one(waiting: &mut VecDeque<Waiting>, local: u32, birth: u64, frame: RequestFrame)
+    requires { length waiting.old.items < deque_capacity waiting.old }
+    ensures items { waiting.new.items ≡ waiting.old.items ++ waiting_frames local birth (frame ∷ []) }
+    ensures capacity { deque_capacity waiting.new ≡ deque_capacity waiting.old }
+{
+    waiting.push_back_reserved(Waiting {
+        local,
+        birth,
+        frame,
+    });
 }
 
 impl Outbox {
@@ -114,7 +127,10 @@ impl Outbox {
         requires room { length self.old.frames + length frames ≤ Self.MOST_FRAMES }
         ensures { self.new ≡ with_frames self.old (waiting_frames local birth frames) }
     {
-        push_all(&mut self.frames, local, birth, frames.into_vec());
+        match frames.into_only() {
+            Ok(frame) => push_one(&mut self.frames, local, birth, frame),
+            Err(frames) => push_all(&mut self.frames, local, birth, frames),
+        }
     }
 
     /// Drops the waiting frames of a dialogue. A frame that is being sent stays. Takes no memory.

@@ -11,7 +11,7 @@ pub struct Status {
     pub totals: Totals,
     /// How many dialogues the link holds.
     pub dialogues: usize,
-    /// How many places for frames are held, of [`Outbox::MOST_FRAMES`](crate::Outbox::MOST_FRAMES): by frames that wait, by
-    /// the frame that is being sent, and by entries that are out.
+    /// How many places for frames are held, of [`Outbox::MOST_FRAMES`](crate::Outbox::MOST_FRAMES): by frames that wait,
+    /// by the frame that is being sent, and by entries that are out.
     pub places: usize,
 }

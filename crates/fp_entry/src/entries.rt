@@ -6,6 +6,9 @@ use crate::Entry;
 use std::alloc::{AllocError, Global};
 use std::marker::Model;
 
+/// How many entries a list has room for once it has one: as many as a Begin with one component brings.
+const FIRST_ROOM: usize = 2;
+
 /// A list of entries. Contracts see it as their list.
 #[derive(Debug, Drop)]
 pub struct Entries {
@@ -40,11 +43,15 @@ impl Entries {
         self.items.as_slice()
     }
 
-    /// Appends an entry. If memory runs out, the list is unchanged.
+    /// Appends an entry. If memory runs out, the list is unchanged. Most messages bring at most two entries, so the first
+    /// one gets room for one more.
     pub fn push(&mut self, entry: Entry) -> Result<(), AllocError>
         ensures ok { OnOk result (self.new ≡ self.old ++ entry ∷ []) }
         ensures err { OnErr result (self.new ≡ self.old) }
     {
+        if self.items.is_empty() {
+            self.items.reserve_exact(FIRST_ROOM)?;
+        }
         self.items.push(entry)?;
         Ok(())
     }

@@ -119,6 +119,16 @@ module _ {X : Type 0} where
     pub without : (rows : map.FinMap nat_cmp X) → values_in slab ≡ rows → (q : ℕ) → key_of q ≡ None → map.contains_key rows q ≡ true → ⊥
     without rows is q absent has = false≢true (ap is_some (missing q absent ∙ ap (λ m. map.get m q) is) ∙ has)
 
+    -- an identifier without a value leads nowhere
+    pub nowhere : (rows : map.FinMap nat_cmp X) → values_in slab ≡ rows → (q : ℕ) → map.get rows q ≡ None → key_of q ≡ None
+    nowhere rows is q none = by (key_of q) refl
+      where
+        by : (o : Option ℕ) → key_of q ≡ o → key_of q ≡ None
+        by None there = there
+        by (Some key) there =
+            let it = leads.to_its_entry q key there in
+            absurd (let clash = found q key (q, it.0) there it.1 ∙ ap (λ m. map.get m q) is ∙ none in cc)
+
     -- the entry to which an identifier leads is written over, and keeps the identifier
     pub overwritten : (local key : ℕ) → key_of local ≡ Some key → (entry : ℕ × X) → get slab key ≡ Some entry → (w : X) → Updates slab (with_value slab key (entry.0, w)) key (Some (local, w))
     overwritten local key there entry at w =

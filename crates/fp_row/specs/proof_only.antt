@@ -2,4 +2,5 @@
 -- words.
 pub mod IdentifierHash
 pub mod Leads
+pub mod Places
 pub mod Serving

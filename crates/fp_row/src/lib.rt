@@ -36,6 +36,7 @@ mod ending;
 mod heap_core;
 mod identifier_hash;
 mod laws;
+mod lists;
 mod request_frame;
 mod request_frames;
 mod requested;

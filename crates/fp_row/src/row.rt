@@ -1,11 +1,12 @@
 //! One dialogue.
 
-ghost use Rattle.std.specs.Prelude.{◌≡◌, ◌≢◌, [], ◌++◌, ◌≤◌, ◌<◌, ◌+◌, ◌^◌, ◌&&◌, ◌↔◌, nat_eq, nat_lt, not, false, true, Some, is_some, length, min, take, IsTrue, IfOk, IfErr, IsOk, OnErr, OnOk};
+ghost use Rattle.std.specs.Prelude.{◌≡◌, ◌≢◌, [], ◌≤◌, ◌<◌, ◌+◌, ◌^◌, ◌&&◌, ◌↔◌, nat_eq, nat_lt, not, false, true, Some, is_some, length, min, take, IsTrue, IfOk, IfErr, IsOk, OnErr, OnOk};
 ghost use Rattle.std.specs.Coded.{Coded-set};
 ghost use Rattle.fp_service.specs.Dialogue.{fresh, is_over};
 ghost use Rattle.fp_service.specs.Fold.{core_after, cut, requests};
 
 use crate::heap_core::HeapCore;
+use crate::lists::{append, copies};
 use crate::serving::Steps;
 use crate::{Done, Ending, Requested, ServedTurn, Turn};
 use fp_digits::Moment;
@@ -16,17 +17,6 @@ use fp_service::{
     folds_along_a_grown_list,
 };
 use std::alloc::{AllocError, Global};
-
-/// A copy of these entries. Out of memory is the only error.
-fn copies(alloc: Global, entries: &[Entry]) -> Result<Entries, AllocError>
-    ensures { IfOk result (λ copy. copy ≡ entries.now) }
-{
-    let mut copy = Entries::new(alloc);
-    'entries: for entry in entries {
-        copy.push(entry.try_clone()?)?;
-    }
-    Ok(copy)
-}
 
 /// One dialogue: the entries that it accepted, how many of them were served, and how many of its requests were sent.
 #[derive(Debug, Drop)]
@@ -72,20 +62,6 @@ pub struct Row {
     // The entries that are out are the next ones, of a dialogue that isn't over.
     pub ghost out_within: { served + out ≤ length accepted },
     pub ghost out_is_live: { (nat_lt 0 out && is_over core) ≡ false },
-}
-
-/// Puts entries after those that a dialogue accepted. The first entries keep the list that they were handed in with,
-/// which takes no memory. If memory runs out, nothing changes.
-fn append(accepted: &mut Entries, entries: Entries) -> Result<(), AllocError>
-    ensures ok { OnOk result (accepted.new ≡ accepted.old ++ entries) }
-    ensures first { accepted.old ≡ [] → IsOk result }
-    ensures err { OnErr result (accepted.new ≡ accepted.old) }
-{
-    if accepted.is_empty() {
-        *accepted = entries;
-        return Ok(());
-    }
-    accepted.append(entries)
 }
 
 impl Row {

@@ -1,6 +1,6 @@
 //! Rows by local identifier.
 
-ghost use Rattle.std.specs.Prelude.{◌≡◌, ◌<◌, ◌^◌, ℕ, IfErr, IsOk, IsTrue, None, OnOk, Some, if◌then◌else◌};
+ghost use Rattle.std.specs.Prelude.{◌≡◌, ◌<◌, ◌^◌, ℕ, IfErr, IsOk, IsTrue, None, OnErr, OnOk, Some, if◌then◌else◌};
 ghost use Rattle.std.specs.Option.{option_copied, option_copied_mut};
 ghost use Rattle.std.specs.Borrow.{LendsIf, sem};
 ghost use Rattle.std.specs.Ordering.{nat_cmp};
@@ -15,7 +15,7 @@ use crate::identifier_hash::IdentifierHasher;
 use crate::{Ending, Row};
 use fp_digits::Moment;
 use slab::Slab;
-use std::alloc::Global;
+use std::alloc::{AllocError, Global};
 use std::collections::HashMap;
 use std::hash::BuildHasherDefault;
 use std::marker::Model;
@@ -133,6 +133,19 @@ impl Rows {
         Ok(())
     }
 
+    /// Puts a row under an identifier, which must have none. If memory runs out, nothing changes, and the row is lost.
+    pub fn add(&mut self, local: u32, row: Row) -> Result<(), AllocError>
+        requires { map.get self.old local ≡ None }
+        ensures ok { OnOk result (self.new ≡ map.insert self.old local row) }
+        ensures err { OnErr result (self.new ≡ self.old) }
+    {
+        self.rows.reserve(1)?;
+        let key = self.rows.vacant_key();
+        self.index.insert(local, key)?;
+        self.rows.insert_reserved((local, row));
+        Ok(())
+    }
+
     /// The row under an identifier, if there is one.
     pub fn get(&self, local: u32) -> Option<&Row>
         ensures { option_copied result ≡ map.get self.now local }
@@ -164,6 +177,16 @@ impl Rows {
             return None;
         };
         Some(self.rows.remove(key).1)
+    }
+
+    /// Drops the row under an identifier, if there is one. Takes no memory.
+    pub fn forget(&mut self, local: u32)
+        ensures { self.new ≡ map.remove self.old local }
+    {
+        let Some(key) = self.index.remove(&local) else {
+            return;
+        };
+        drop(self.rows.remove(key));
     }
 
     /// Closes every dialogue, and removes those with nothing left. `sending` is the dialogue whose frame is being sent,

@@ -1,12 +1,8 @@
 use Rattle.fp_book.proofs.Grows.{opened_at}
-use Rattle.fp_book.proofs.dialogues.open.Goals.{in-Ok, in-Err}
 use Rattle.fp_book.proofs.dialogues.open.Goals as goal
 
--- the new dialogue is among the others, if there was memory
+-- the new dialogue is among the others
 pub returns-clause-ok : goal.returns-clause-ok
 returns-clause-ok c =
     let taken = c.in_ok-accept.ensures.ok in
-    elim c.match-insert.branch [
-      | in-Ok w ↦ rw (w.result-is, w.in-Ok.ensures.ok, c.of-left.ensures) (opened_at _ _ _ _ _ _ _ _ _ c.open-opened.ensures taken.0 taken.1)
-      | in-Err w ↦ rw w.result-is tt
-    ]
+    rw (c.in_ok-add.ensures.ok, c.of-left.ensures) (opened_at _ _ _ _ _ _ _ _ _ c.open-opened.ensures taken.0 taken.1)

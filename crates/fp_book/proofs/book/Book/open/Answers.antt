@@ -1,4 +1,4 @@
-use Rattle.fp_book.proofs.Names.{Follows, Inside, Left, LocalIds, Message, Open, Opened, Opens, OpensAt, OpensDialogue, Prepared, ap, arith, arrival_of, base_of, entries_in, identifier, inl, is_ready, joins, length, more_accepted, most_elements, refl, shelf_of, subst, sum_of, sym, turns_of, verdict, ℕ, ◌++◌, ◌+◌, ◌∙◌, ◌≡◌, ◌≤◌}
+use Rattle.fp_book.proofs.Names.{Follows, Inside, Left, LocalIds, Message, Open, Opened, Opens, OpensAt, OpensDialogue, Prepared, ap, arith, arrival_of, base_of, drop, entries_in, identifier, inl, is_ready, joins, length, more_accepted, most_elements, refl, shelf_of, subst, sum_of, sym, turns_of, verdict, ℕ, ◌++◌, ◌+◌, ◌∙◌, ◌≡◌, ◌≤◌}
 use Rattle.std.specs.FinMap as map
 use Rattle.fp_book.proofs.Fits.{can_open}
 use Rattle.fp_book.proofs.Kept.{Leaves, leaves, place_for_new, room_for_new, same_parts, timed_inserted}
@@ -7,6 +7,14 @@ use Rattle.fp_book.proofs.Serials.{given_first, is_fresh, of_ids}
 use Rattle.fp_book.proofs.Sums.{inserted}
 use Rattle.fp_book.proofs.Turns.{components_few}
 use Rattle.fp_book.proofs.book.Book.open.Goals as goal
+
+-- the next identifier is no dialogue's yet
+pub open-requires : goal.open-requires
+open-requires c =
+    let b = c.self.inside in
+    let gives = given_first (base_of b.ids.link b.ids.tag) b.ids.queue (drop 1 b.ids.queue) c.in-Some.local c.in-Some.ensures refl in
+    let same = gives.1 ∙ ap (λ (p : ℕ × ℕ). identifier (base_of p.0 p.1) gives.0) c.self.invariant.links in
+    ap (map.get b.rows) same ∙ is_fresh (shelf_of b) gives.0 (drop 1 b.ids.queue) c.self.invariant.sound gives.2
 
 -- there are fewer deadlines than places for them
 pub set_deadline-requires : goal.set_deadline-requires

@@ -1,6 +1,6 @@
 -- The copies so far.
 use Rattle.std.proofs.Common.{◌≡◌, take}
-use Rattle.fp_row.proofs.row.copies.Given as goal
+use Rattle.fp_row.proofs.lists.copies.Given as goal
 
 abbrev pub invariant-entries : goal.invariant-entries
 invariant-entries l = l.copy ≡ take l.entry-index l.entries
