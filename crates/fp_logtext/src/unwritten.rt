@@ -11,7 +11,6 @@ use crate::made::LONGER_THAN_A_LINE;
 use fp_book::Line;
 use fp_replay::write_line;
 use fp_streams::LinkWrite;
-use memchr::memchr_iter;
 use std::alloc::{AllocError, Global};
 use std::marker::Model;
 
@@ -32,14 +31,32 @@ fn write_front<L: LinkWrite>(device: &mut L, text: &[u8]) -> usize
     at
 }
 
+/// The most octets that are counted at once, so that their number of line feeds fits an octet.
+const MOST_COUNTED: usize = 240;
+
+/// The number of line feeds in a text of at most 240 octets.
+fn few_line_count(text: &[u8]) -> u8
+    requires { length text.now ≤ MOST_COUNTED }
+    ensures { result ≡ count_by (is_byte 10) text.now }
+{
+    let mut count = 0u8;
+    // The count is an octet, so that the compiler can add sixteen octets at a time.
+    for octet in text {
+        count += u8::from(*octet == b'\n');
+    }
+    count
+}
+
 /// The number of line feeds in a text.
 fn line_count(text: &[u8]) -> usize
     ensures { result ≡ count_by (is_byte 10) text.now }
 {
     let mut count = 0;
-    // Looks at sixteen octets at a time, which `count` of this iterator doesn't.
-    for _ in memchr_iter(b'\n', text) {
-        count += 1;
+    let mut rest = text;
+    while !rest.is_empty() {
+        let (front, after) = rest.split_at(rest.len().min(MOST_COUNTED));
+        count += usize::from(few_line_count(front));
+        rest = after;
     }
     count
 }

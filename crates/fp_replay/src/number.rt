@@ -32,6 +32,7 @@ pub(crate) fn write_number(number: u64, text: &mut Vec<u8>) -> Result<(), AllocE
 }
 
 /// Adds a blank and a number to a text.
+#[inline(always)]
 pub(crate) fn write_field(number: u64, text: &mut Vec<u8>) -> Result<(), AllocError>
     ensures written { OnOk result (text.new.items ≡ text.old.items ++ 32 ∷ decimal number) }
     ensures front { OnErr result (KeepsFront text.old.items text.new.items) }

@@ -50,11 +50,17 @@ pub(crate) enum Left {
     NoMemory,
 }
 
+/// Reports a gap of this number of lines in the log of a link. It stays out of the loop over lines, which else fills a
+/// place for an event at each line.
+#[inline(never)]
+fn report<R: System>(run: &Run<'_, R>, link: u8, lines: u64) {
+    run.events.report(run.rt, Event::LogGap { link, lines });
+}
+
 /// Reports a gap in the log of a link, if a step is one.
 fn report_gap<R: System>(run: &Run<'_, R>, link: u8, step: &LoggedStep) {
     if let LoggedStep::Gap { lost } = step {
-        let gap = Event::LogGap { link, lines: *lost };
-        run.events.report(run.rt, gap);
+        report(run, link, *lost);
     }
 }
 
