@@ -7,10 +7,11 @@
 //! | `history SECONDS RATE` | the numbers of the last minute, hour and day, once this many calls a second came for so long |
 //! | `troubles STATE` | the number of troubles in this state, and their names |
 //! | `html STATE PEER EVENT` | the page in this state, `|` for a line feed |
-//! | `says STATE TEXT` | whether the page in this state has this text |
+//! | `says STATE TEXT` | whether the page in this state has this text, `|` for a line feed |
 //!
-//! A state is `rest`, `load`, `down`, `ended`, `full`, `hang`, `gap` or `many`. In `down` the run is a node, and one call came
-//! in 200 seconds; in `many` 1,234 come each second, and in the others five. In `ended` the link has just gone down.
+//! A state is `rest`, `load`, `down`, `ended`, `full`, `hang`, `gap`, `many` or `two`. In `down` the run is a node, and one
+//! call came in 200 seconds; in `many` 1,234 come each second, and in the others five. In `ended` the link has just gone
+//! down. In `two` link 3 is under load, and link 5 has a gap.
 
 use cases::first_word;
 use fp_book::{Book, Outbox};
@@ -150,7 +151,7 @@ fn times_of(state: &str) -> Histogram {
     times
 }
 
-/// The page of a run with one link in this state.
+/// The page of a run with these links in this state.
 fn view<'a>(
     state: &str,
     links: &'a [LinkView<'a>],
@@ -191,15 +192,29 @@ fn write_page(
         }
         return Ok(());
     }
-    let text = page_text(alloc, page)?;
+    let text = page_text(alloc, page)?.as_str().replace(alloc, "\n", "|")?;
     if kind == "says" {
         let says = text.as_str().contains(wanted);
         out.push_str(if says { "yes" } else { "no" })?;
         return Ok(());
     }
-    let text = text.as_str().replace(alloc, "\n", "|")?;
     out.push_str(text.as_str())?;
     Ok(())
+}
+
+/// A link of this number in a state.
+fn link_of<'a>(link: u8, state: &str, peer: &'a str, calls: &'a History) -> LinkView<'a> {
+    LinkView {
+        numbers: LinkNumbers {
+            link,
+            gauges: gauges_of(state),
+            counters: counters_of(state),
+        },
+        peer,
+        since: "2024-05-06 11:00:00 UTC",
+        calls,
+        hangs: state == "hang",
+    }
 }
 
 /// A case about the page in a state.
@@ -207,25 +222,18 @@ fn page(alloc: Global, kind: &str, words: &str, out: &mut String) -> anyhow::Res
     let (state, rest) = first_word(words);
     let (peer, event) = first_word(if kind == "says" { "" } else { rest });
     let history = history_of(alloc, state)?;
-    let link = LinkView {
-        numbers: LinkNumbers {
-            link: 3,
-            gauges: gauges_of(state),
-            counters: counters_of(state),
-        },
-        peer,
-        since: "2024-05-06 11:00:00 UTC",
-        calls: &history,
-        hangs: state == "hang",
-    };
     let runs = RunHistory {
         calls: &history,
         answers: &history,
         aborts: &history,
     };
-    let links = [link];
+    let links = [
+        link_of(3, state, peer, &history),
+        link_of(5, "gap", peer, &history),
+    ];
     let events = [event];
-    let page = view(state, &links, runs, &events);
+    let shown = if state == "two" { 2 } else { 1 };
+    let page = view(state, &links[..shown], runs, &events);
     write_page(alloc, kind, &page, rest, out)
 }
 

@@ -14,7 +14,7 @@ pub struct Gauges {
     pub dialogues: u64,
     /// The most dialogues that the link held.
     pub most_dialogues: u64,
-    /// The most places for frames of the link that were held.
+    /// The most places for frames of the link that were seen to be held.
     pub most_places: u64,
     /// How many log lines of the link aren't written yet.
     pub lines: u64,
@@ -33,7 +33,7 @@ pub(crate) enum Gauge {
     Dialogues,
     /// The most dialogues that the link held.
     MostDialogues,
-    /// The most places for frames that were held.
+    /// The most places for frames that were seen to be held.
     MostPlaces,
     /// The log lines that wait to be written.
     Lines,

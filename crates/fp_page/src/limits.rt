@@ -61,14 +61,22 @@ pub(crate) fn add_limits(html: &mut Html, page: &PageNumbers<'_>) -> Result<(), 
     }
     html.add(&[
         Piece::Fixed(
-            "</table>\n<p class=\"s\">The most seen at once since the run began. A bar is full at 4,096 dialogues and at 8,192 places for frames, the limits, and at ",
+            "</table>\n<p class=\"s\">The most seen at once since the run began. A bar is full at ",
         ),
+        Piece::Number(MOST_DIALOGUES),
+        Piece::Fixed(" dialogues and at "),
+        Piece::Number(MOST_PLACES),
+        Piece::Fixed(" places for frames, the limits, and at "),
         Piece::Number(LINES_OF_CALLS),
         Piece::Fixed(
-            " log lines that wait, those of 42,000 ordinary calls. Lines of long messages fill the room sooner. A place is held while a message is served, and until its answers are sent. From ",
+            " log lines that wait, those of 42,000 ordinary calls. Lines of long messages fill the room sooner. A place is held while a message is served, and until its answers are sent. Messages are held back from ",
         ),
         Piece::Number(MANY_PLACES),
-        Piece::Fixed(" places on, messages are held back.</p>\n"),
+        Piece::Fixed(" places on, at "),
+        Piece::Number(MOST_DIALOGUES),
+        Piece::Fixed(
+            " dialogues while one of them is busy, at 64 entries that wait in one dialogue, and at 64 Aborts that wait.</p>\n",
+        ),
     ])?;
     add_refusals(html, page)?;
     html.add(&[Piece::Fixed("</section>\n")])

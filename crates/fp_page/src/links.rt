@@ -53,15 +53,32 @@ fn calls_now(link: &LinkView<'_>) -> Piece<'static> {
     }
 }
 
+/// The note beside the rate of a link: calls are missing if the log takes no lines now, or lost some of the link.
+fn calls_note(page: &PageNumbers<'_>, link: &LinkView<'_>) -> &'static str {
+    if link.numbers.gauges.is_up && (page.log_fails || page.log_hangs) {
+        "<br><b class=\"bad\">Calls whose log lines find no place aren't counted.</b>"
+    } else if link.numbers.counters.number(Counter::LinesLost) > 0 {
+        "<br>Calls whose log lines were lost are missing."
+    } else {
+        ""
+    }
+}
+
 /// A link: its state, its numbers and its curves.
-fn add_link(html: &mut Html, link: &LinkView<'_>) -> Result<(), AllocError> {
+fn add_link(
+    html: &mut Html,
+    page: &PageNumbers<'_>,
+    link: &LinkView<'_>,
+) -> Result<(), AllocError> {
     html.add(&[Piece::Fixed("<section>\n")])?;
     add_state(html, link)?;
     add_peer(html, link)?;
     html.add(&[
         Piece::Fixed("<p><strong>"),
         calls_now(link),
-        Piece::Fixed("</strong> calls a second now</p>\n"),
+        Piece::Fixed("</strong> calls a second now"),
+        Piece::Fixed(calls_note(page, link)),
+        Piece::Fixed("</p>\n"),
     ])?;
     add_curves(html, link.calls)?;
     html.add(&[Piece::Fixed("<table>\n")])?;
@@ -75,7 +92,7 @@ fn add_link(html: &mut Html, link: &LinkView<'_>) -> Result<(), AllocError> {
 pub(crate) fn add_links(html: &mut Html, page: &PageNumbers<'_>) -> Result<(), AllocError> {
     html.add(&[Piece::Fixed("<h2>Links</h2>\n<div class=\"g\">\n")])?;
     for link in page.links {
-        add_link(html, link)?;
+        add_link(html, page, link)?;
     }
     html.add(&[Piece::Fixed("</div>\n")])
 }
