@@ -29,8 +29,8 @@ const IDLE_SECONDS: i32 = 60;
 /// How many seconds after a probe that wasn't acknowledged the system sends the next one.
 const PROBE_INTERVAL_SECONDS: i32 = 10;
 
-/// How many probes may stay unacknowledged before the system gives the connection up. So it does
-/// after 120 seconds, but only if it refused [`USER_TIMEOUT_MILLISECONDS`].
+/// How many probes may stay unacknowledged before the system gives the connection up. Six are lost
+/// after 120 seconds. That applies only if the system refused [`USER_TIMEOUT_MILLISECONDS`].
 const MOST_PROBES: i32 = 6;
 
 /// For how many milliseconds octets that were sent may stay unacknowledged, octets that wait may

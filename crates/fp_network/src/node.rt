@@ -8,8 +8,9 @@
 //! | `receiving.rt` | octets of connections, and the messages in them |
 //! | `forwarding.rt` | octets of the link, and the messages in them |
 
-ghost use Rattle.std.specs.Prelude.{◌≡◌, ℕ, List, [], ◌∷◌, false, true, None, Some, ◌<◌, is_none, IfOk, IfSome, OnErr, OnOk, MatchOption, length};
+ghost use Rattle.std.specs.Prelude.{◌≡◌, ℕ, List, [], ◌∷◌, false, true, None, Some, ◌<◌, ◌≤◌, is_none, IfOk, IfSome, OnErr, OnOk, MatchOption, length};
 ghost use Rattle.std.specs.Option.{option_map};
+ghost use Rattle.std.specs.VecDeque.{deque_capacity};
 ghost use Rattle.fp_adaptor.specs.declared.setting.Setting.{Setting};
 ghost use Rattle.fp_adaptor.specs.Adaptor.{Led};
 ghost use Rattle.fp_adaptor.specs.Connections.{IsFirst};
@@ -78,6 +79,10 @@ impl Node {
     /// How many connections there may be at a time.
     pub const PLACES: usize = 16;
 
+    /// How many events a new node has room for. A turn of [`crate::NetworkLink`] adds at most 64:
+    /// for each place two of accepted connections, and two of the one that is there.
+    pub const EVENTS: usize = 128;
+
     /// A node without connections. `Err`: memory ran out.
     pub fn new(alloc: Global, plan: Plan<'_>) -> Result<Node, AllocError>
         ensures link { IfOk result (λ node. for_link node ≡ []) }
@@ -89,7 +94,10 @@ impl Node {
         ensures stays { IfOk result (λ node. node.is_draining ≡ false) }
         ensures from_link { IfOk result (λ node. node.from_link ≡ []) }
         ensures counts { IfOk result (λ node. (why : Closing) → closings_of node.tally why ≡ 0) }
+        ensures connections { IfOk result (λ node. node.tally.connections ≡ 0) }
+        ensures skipped { IfOk result (λ node. node.tally.skipped ≡ 0) }
         ensures news { IfOk result (λ node. node.news.items ≡ []) }
+        ensures room { IfOk result (λ node. Self.EVENTS ≤ deque_capacity node.news) }
     {
         let names = own_first(alloc, plan.units)?;
         let setting = Setting {
@@ -99,6 +107,7 @@ impl Node {
         };
         let adaptor = Adaptor::new(alloc, setting)?;
         let places = free_places(alloc)?;
+        let news = VecDeque::with_capacity(alloc, Self::EVENTS)?;
         Ok(Node {
             alloc,
             names,
@@ -108,7 +117,7 @@ impl Node {
             to_link: Waiting::new(alloc),
             is_draining: false,
             tally: Tally::new(),
-            news: VecDeque::new(alloc),
+            news,
         })
     }
 
@@ -123,7 +132,8 @@ impl Node {
         let _ = self.news.push_back(event);
     }
 
-    /// The next event, if there is one that wasn't returned yet. Events are returned in order.
+    /// The next event, if there is one that wasn't returned yet. Events are returned in order, and
+    /// the room of each is free again.
     pub fn next_event(&mut self) -> Option<NetworkEvent>
         ensures link { LeavesLink self.old self.new }
         ensures places { self.new.places ≡ self.old.places }
@@ -133,6 +143,7 @@ impl Node {
         ensures news { MatchOption result
             ((self.old.news.items ≡ []) × (self.new.news.items ≡ []))
             (λ event. self.old.news.items ≡ event ∷ self.new.news.items) }
+        ensures room { deque_capacity self.new.news ≡ deque_capacity self.old.news }
     {
         self.news.pop_front()
     }
