@@ -41,7 +41,7 @@ fn push_birth(out: &mut String, birth: Option<u64>) -> anyhow::Result<()> {
 }
 
 impl Register {
-    /// Puts a dialogue of this birth under an identifier.
+    /// Puts a dialogue of this birth under an identifier, in place of the one that was there, if any.
     fn put(&mut self, local: u32, birth: u64) -> anyhow::Result<()> {
         let row = Row::open(
             self.alloc,
@@ -50,10 +50,9 @@ impl Register {
             birth,
             moment_after(0)?,
         );
-        match self.rows.insert(local, row) {
-            Ok(()) => Ok(()),
-            Err(_) => bail!("out of memory"),
-        }
+        self.rows.forget(local);
+        self.rows.add(local, row)?;
+        Ok(())
     }
 
     /// Puts a dialogue of a birth under an identifier, both from text.
@@ -79,11 +78,18 @@ impl Register {
         self.push_count(out)
     }
 
-    /// Removes them.
+    /// Removes a dialogue, and writes its birth.
+    fn remove(&mut self, local: u32, out: &mut String) -> anyhow::Result<()> {
+        let birth = self.rows.get(local).map(Row::birth);
+        self.rows.forget(local);
+        push_birth(out, birth)
+    }
+
+    /// Removes COUNT dialogues under rising identifiers.
     fn empty(&mut self, count: &str, out: &mut String) -> anyhow::Result<()> {
         let count: u16 = count.parse()?;
         for index in 0..count {
-            drop(self.rows.remove(FIRST + u32::from(index)));
+            self.rows.forget(FIRST + u32::from(index));
         }
         self.push_count(out)
     }
@@ -113,7 +119,7 @@ impl Register {
         let local = local_of(local)?;
         match verb {
             "get" => push_birth(out, self.rows.get(local).map(Row::birth)),
-            "remove" => push_birth(out, self.rows.remove(local).map(|row| row.birth())),
+            "remove" => self.remove(local, out),
             "after" => push_local(out, self.rows.after(Some(local))),
             _ => bail!("no step: {verb}"),
         }

@@ -115,10 +115,6 @@ module _ {X : Type 0} where
     pub missing : (q : ℕ) → key_of q ≡ None → None ≡ map.get (values_in slab) q
     missing q is = sym (get_led q ∙ ap (value_at slab) is)
 
-    -- one that leads nowhere has no value in the map that this is
-    pub without : (rows : map.FinMap nat_cmp X) → values_in slab ≡ rows → (q : ℕ) → key_of q ≡ None → map.contains_key rows q ≡ true → ⊥
-    without rows is q absent has = false≢true (ap is_some (missing q absent ∙ ap (λ m. map.get m q) is) ∙ has)
-
     -- an identifier without a value leads nowhere
     pub nowhere : (rows : map.FinMap nat_cmp X) → values_in slab ≡ rows → (q : ℕ) → map.get rows q ≡ None → key_of q ≡ None
     nowhere rows is q none = by (key_of q) refl

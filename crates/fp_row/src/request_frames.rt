@@ -7,20 +7,20 @@ use std::alloc::{AllocError, Global};
 use std::marker::Model;
 use std::{mem, slice};
 
-/// Frames of requests, in order. A single frame, as most turns request it, is held without a list. Contracts see the list
-/// of their octets.
+/// Frames of requests, in order. A single frame, as most turns request it, is held without a `Vec`. Contracts see the
+/// list of their octets.
 #[derive(Debug, Drop)]
 pub struct RequestFrames {
-    places: Places,
+    list: FrameList,
     alloc: Global,
 }
 
-/// Where frames are.
+/// A list of frames in its shortest form.
 #[derive(Debug, Drop)]
-enum Places {
+enum FrameList {
     /// No frame.
     None,
-    /// One frame, without a list.
+    /// One frame, without a `Vec`.
     One(RequestFrame),
     /// Two frames or more, in order.
     Many(Vec<RequestFrame>),
@@ -28,25 +28,25 @@ enum Places {
 
 impl Model for RequestFrames {
     ghost use Rattle.std.specs.Prelude.{ℕ, List};
-    ghost use Rattle.fp_row.specs.proof_only.Places.{IsShortest, frames_at};
+    ghost use Rattle.fp_row.specs.proof_only.FrameList.{IsShortest, frames_at};
 
     ghost Value = { List (List ℕ) };
 
-    ghost view = { λ own. frames_at own.places };
+    ghost view = { λ own. frames_at own.list };
 
-    ghost invariant = { λ own. IsShortest own.places };
+    ghost invariant = { λ own. IsShortest own.list };
 }
 
 impl RequestFrames {
-    /// The places of a new list, which begins with two frames.
-    const FIRST_PLACES: usize = 4;
+    /// The room of a new `Vec`, in frames. It begins with two.
+    const FIRST_ROOM: usize = 4;
 
     /// No frame. Takes no memory.
     pub(crate) fn new(alloc: Global) -> RequestFrames
         ensures { result ≡ [] }
     {
         RequestFrames {
-            places: Places::None,
+            list: FrameList::None,
             alloc,
         }
     }
@@ -56,25 +56,26 @@ impl RequestFrames {
         ensures ok { OnOk result (self.new ≡ self.old ++ frame ∷ []) }
         ensures err { OnErr result (self.new ≡ self.old) }
     {
-        match mem::replace(&mut self.places, Places::None) {
-            Places::None => {
-                self.places = Places::One(frame);
+        match mem::replace(&mut self.list, FrameList::None) {
+            FrameList::None => {
+                self.list = FrameList::One(frame);
                 Ok(())
             }
-            Places::One(first) => {
-                let Ok(mut frames) = Vec::with_capacity(self.alloc, Self::FIRST_PLACES) else {
-                    self.places = Places::One(first);
+            FrameList::One(first) => {
+                let Ok(mut frames) = Vec::with_capacity(self.alloc, Self::FIRST_ROOM) else {
+                    self.list = FrameList::One(first);
                     return Err(AllocError);
                 };
                 frames.push_reserved(first);
                 frames.push_reserved(frame);
-                self.places = Places::Many(frames);
+                self.list = FrameList::Many(frames);
                 Ok(())
             }
-            Places::Many(mut frames) => {
+            FrameList::Many(mut frames) => {
                 let pushed = frames.push(frame);
-                self.places = Places::Many(frames);
-                Ok(pushed?)
+                self.list = FrameList::Many(frames);
+                pushed?;
+                Ok(())
             }
         }
     }
@@ -97,10 +98,10 @@ impl RequestFrames {
     pub fn as_slice(&self) -> &[RequestFrame]
         ensures { result.now ≡ self.now }
     {
-        match &self.places {
-            Places::None => &[],
-            Places::One(frame) => slice::from_ref(frame),
-            Places::Many(frames) => frames.as_slice(),
+        match &self.list {
+            FrameList::None => &[],
+            FrameList::One(frame) => slice::from_ref(frame),
+            FrameList::Many(frames) => frames.as_slice(),
         }
     }
 
@@ -110,10 +111,10 @@ impl RequestFrames {
         ensures err { IfErr result (λ frames. frames.items ≡ self) }
         ensures only { IsOk result ↔ (length self ≡ 1) }
     {
-        match self.places {
-            Places::None => Err(Vec::new(self.alloc)),
-            Places::One(frame) => Ok(frame),
-            Places::Many(frames) => Err(frames),
+        match self.list {
+            FrameList::None => Err(Vec::new(self.alloc)),
+            FrameList::One(frame) => Ok(frame),
+            FrameList::Many(frames) => Err(frames),
         }
     }
 }

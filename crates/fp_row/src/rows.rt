@@ -1,6 +1,6 @@
 //! Rows by local identifier.
 
-ghost use Rattle.std.specs.Prelude.{◌≡◌, ◌<◌, ◌^◌, ℕ, IfErr, IsOk, IsTrue, None, OnErr, OnOk, Some, if◌then◌else◌};
+ghost use Rattle.std.specs.Prelude.{◌≡◌, ◌<◌, ◌^◌, ℕ, None, OnErr, OnOk, Some, if◌then◌else◌};
 ghost use Rattle.std.specs.Option.{option_copied, option_copied_mut};
 ghost use Rattle.std.specs.Borrow.{LendsIf, sem};
 ghost use Rattle.std.specs.Ordering.{nat_cmp};
@@ -111,28 +111,6 @@ impl Rows {
         self.rows.len()
     }
 
-    /// Puts a row under an identifier. A row that was there is replaced, which takes no memory. If memory runs out, the
-    /// row is returned in `Err`, and nothing changes.
-    pub fn insert(&mut self, local: u32, row: Row) -> Result<(), Row>
-        ensures ok { OnOk result (self.new ≡ map.insert self.old local row) }
-        ensures err { IfErr result (λ back. (back ≡ row) × (self.new ≡ self.old)) }
-        ensures replaces { IsTrue (map.contains_key self.old local) → IsOk result }
-    {
-        if let Some(key) = key_in(&self.index, local) {
-            self.rows[key].1 = row;
-            return Ok(());
-        }
-        if self.rows.reserve(1).is_err() {
-            return Err(row);
-        }
-        let key = self.rows.vacant_key();
-        if self.index.insert(local, key).is_err() {
-            return Err(row);
-        }
-        self.rows.insert_reserved((local, row));
-        Ok(())
-    }
-
     /// Puts a row under an identifier, which must have none. If memory runs out, nothing changes, and the row is lost.
     pub fn add(&mut self, local: u32, row: Row) -> Result<(), AllocError>
         requires { map.get self.old local ≡ None }
@@ -166,17 +144,6 @@ impl Rows {
             return None;
         };
         Some(&mut self.rows[key].1)
-    }
-
-    /// Removes the row under an identifier and returns it, if there is one. Takes no memory.
-    pub fn remove(&mut self, local: u32) -> Option<Row>
-        ensures row { result ≡ map.get self.old local }
-        ensures others { self.new ≡ map.remove self.old local }
-    {
-        let Some(key) = self.index.remove(&local) else {
-            return None;
-        };
-        Some(self.rows.remove(key).1)
     }
 
     /// Drops the row under an identifier, if there is one. Takes no memory.
