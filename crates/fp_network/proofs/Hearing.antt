@@ -1,7 +1,7 @@
 -- The messages of a connection, one after another.
-use Rattle.std.proofs.Common.{◌≡◌, ℕ, ◌<◌, Bool, true, false, nat_eq, List, [], ◌∷◌, ◌++◌, length, length-append, Option, Some, None, arith, is_some, append_assoc, inl, inr, refl, sym, subst, ap, ◌∙◌}
+use Rattle.std.proofs.Common.{◌≡◌, ℕ, zero, suc, ◌<◌, Bool, true, false, nat_eq, List, [], ◌∷◌, ◌++◌, length, length-append, Option, Some, None, arith, is_some, slice_get, append_assoc, inl, inr, refl, sym, subst, ap, ◌∙◌}
 use Rattle.std.proofs.lemmas.Bool.{cases_Bool, eqb-false, eqb-true}
-use Rattle.std.proofs.lemmas.Option.{none-some}
+use Rattle.std.proofs.lemmas.Option.{none-some, same_Some}
 use Rattle.std.specs.Option.{option_map}
 use Rattle.fp_adaptor.specs.declared.adaptor.Adaptor.{Adaptor}
 use Rattle.fp_adaptor.specs.declared.setting.Setting.{Setting}
@@ -21,7 +21,7 @@ use Rattle.fp_network.specs.Changes.{closing, is_slow, sending, sending_if}
 use Rattle.fp_network.specs.Course.{closing_of}
 use Rattle.fp_network.specs.Endings.{Activates}
 use Rattle.fp_network.specs.Node.{LeavesOthers, connection_in, ended_at, ended_unless, for_link, is_over_at}
-use Rattle.fp_network.specs.Receiving.{HearsEach, NextIf, NextIn, NextOrEnd, OnlyAt, Results, SkipsNone, Steps, feeding, reader_of}
+use Rattle.fp_network.specs.Receiving.{EndsAt, HearsEach, NextIf, NextIn, NextOrEnd, OnlyAt, Results, SkipsNone, Steps, Takes, feeding, reader_of}
 use Rattle.fp_network.specs.Stepping.{ArrivesIf, ArrivesIn}
 use Rattle.fp_network.proofs.Ending.{closed_led}
 
@@ -115,6 +115,48 @@ results_active unit place octets old new link skips activates setting history le
       subst (λ (l : List Event). Led new.adaptor setting l) (sym (append_assoc (ended_at old so.0) so.1 history)) so.3,
     )
 
+-- these messages are taken one after another
+abbrev pub HearsOn : Setting → List Event → ℕ → List IpaMessage → Node → Node → Type 0
+HearsOn setting history place [] old new = (more : List Event) × EndsAt place old new more × Led new.adaptor setting (more ++ history)
+HearsOn setting history place (message ∷ messages) old new =
+    (next : Node) × (mid : Node) × NextOrEnd place old next (Some message)
+    × (way : Steps setting history place message next mid)
+    × HearsOn setting (way.more ++ history) place messages mid new
+
+abbrev from : {T : Type 0} → T → (ℕ → T) → ℕ → T
+from first rest zero = first
+from first rest (suc count) = rest count
+
+-- the first message is taken, and then the others
+takes_from : (setting : Setting) (history : List Event) (place : ℕ) (message : IpaMessage) (messages : List IpaMessage) (old next mid new : Node)
+    → NextOrEnd place old next (Some message) → (way : Steps setting history place message next mid)
+    → (so : HearsEach setting (way.more ++ history) place messages mid new) → (count : ℕ) (other : IpaMessage)
+    → slice_get (message ∷ messages) count ≡ Some other
+    → Takes setting place other (from old so.node count) (from history so.events count) (so.node count) (so.events count)
+takes_from setting history place message messages old next mid new is way so zero other at =
+    subst (λ (other : IpaMessage). Takes setting place other old history (so.node 0) (so.events 0)) (same_Some message other at)
+    (subst (λ (now : Node). Takes setting place message old history now (so.events 0)) (sym so.first.0) (next, is, way, so.first.1))
+takes_from setting history place message messages old next mid new is way so (suc count) other at = so.each count other at
+
+pub hears_each : (setting : Setting) (history : List Event) (place : ℕ) (messages : List IpaMessage) (old new : Node)
+    → HearsOn setting history place messages old new → HearsEach setting history place messages old new
+hears_each setting history place [] old new last = record {
+  node = λ count. old;
+  events = λ count. history;
+  first = (refl, refl);
+  each = λ count message at. absurd (none-some _ at);
+  last = last;
+}
+hears_each setting history place (message ∷ messages) old new (next, mid, is, way, on) =
+    let so = hears_each setting (way.more ++ history) place messages mid new on in
+    record {
+      node = from old so.node;
+      events = from history so.events;
+      first = (refl, refl);
+      each = takes_from setting history place message messages old next mid new is way so;
+      last = so.last;
+    }
+
 -- the messages so far, from when the octets came
 pub record Heard (place : ℕ) (octets : List ℕ) (setting : Setting) (history : List Event) (old now : Node) : Type 0 where
   pub fed : Node
@@ -123,8 +165,8 @@ pub record Heard (place : ℕ) (octets : List ℕ) (setting : Setting) (history 
   pub messages : List IpaMessage
   pub later : List Event
   pub led : Led now.adaptor setting later
-  pub then : (new : Node) (rest : List IpaMessage) → HearsEach setting later place rest now new
-      → HearsEach setting history place (messages ++ rest) fed new
+  pub then : (new : Node) (rest : List IpaMessage) → HearsOn setting later place rest now new
+      → HearsOn setting history place (messages ++ rest) fed new
 
 pub heard_more : (place : ℕ) (octets : List ℕ) (setting : Setting) (history : List Event) (old now next new : Node) (message : IpaMessage)
     → Heard place octets setting history old now → NextOrEnd place now next (Some message)
@@ -140,13 +182,20 @@ heard_more place octets setting history old now next new message so is steps =
       later = way.more ++ so.later;
       led = way.led;
       then = λ last rest each.
-          subst (λ (all : List IpaMessage). HearsEach setting history place all so.fed last) (sym (append_assoc so.messages (message ∷ []) rest))
+          subst (λ (all : List IpaMessage). HearsOn setting history place all so.fed last) (sym (append_assoc so.messages (message ∷ []) rest))
           (so.then last (message ∷ rest) (next, new, is, way, each));
     }
+
+-- octets came, and each message is taken
+abbrev pub HearingOn : ℕ → List ℕ → Node → Node → Type 0
+HearingOn place octets old new =
+    (setting : Setting) (history : List Event) → Led old.adaptor setting history
+    → (fed : Node) × (connection_in fed place ≡ option_map (feeding octets) (connection_in old place))
+    × OnlyAt place old fed × (messages : List IpaMessage) × HearsOn setting history place messages fed new
 
 pub heard_all : (place : ℕ) (octets : List ℕ) (setting : Setting) (history : List Event) (old now new : Node)
     → Heard place octets setting history old now → NextOrEnd place now new None
     → (fed : Node) × (connection_in fed place ≡ option_map (feeding octets) (connection_in old place))
-    × OnlyAt place old fed × (messages : List IpaMessage) × HearsEach setting history place messages fed new
+    × OnlyAt place old fed × (messages : List IpaMessage) × HearsOn setting history place messages fed new
 heard_all place octets setting history old now new so end =
     (so.fed, so.is_fed, so.only, so.messages ++ [], so.then new [] (end setting so.later so.led))

@@ -22,15 +22,14 @@ use Rattle.fp_network.specs.declared.course.Course.TheVariants.{Open, Draining, 
 use Rattle.fp_network.specs.declared.event.Closing.{Closing}
 use Rattle.fp_network.specs.declared.event.Closing.TheVariants.{Replaced, TooLong}
 use Rattle.fp_network.specs.declared.node.Node.{Node}
-use Rattle.fp_network.specs.Counting.{course_of}
 use Rattle.fp_network.specs.Course.{closing_of, drained, shut}
 use Rattle.fp_network.specs.Endings.{ClosesOnly, EndsClosed, IsTied, KeepsTied}
 use Rattle.fp_network.specs.Forwarding.{ForwardsEach, ForwardsOctets, Puts}
 use Rattle.fp_network.specs.Node.{ChangesEach, LeavesOthers, connection_at, connection_in, ended_at, ended_unless, is_over_at, is_over_of}
-use Rattle.fp_network.specs.Receiving.{ComesTo, EndsAt, Hearing, HearsEach, NextIf, NextIn, Steps, answering}
+use Rattle.fp_network.specs.Receiving.{ComesTo, EndsAt, NextIf, NextIn, Steps, answering}
 use Rattle.fp_network.proofs.First.{same_some}
-use Rattle.fp_network.proofs.Hearing.{same_led}
-use Rattle.fp_network.proofs.Tallied.{CoursesStay, courses_arrived, courses_at, courses_fed, courses_next, courses_sent, over_same}
+use Rattle.fp_network.proofs.Hearing.{HearingOn, HearsOn, same_led}
+use Rattle.fp_network.proofs.Tallied.{CoursesStay, courses_arrived, courses_at, courses_fed, courses_next, courses_sent, over_same, progress_of}
 use Rattle.fp_network.proofs.Tied.{tied_closes, without_some}
 
 -- events lead to a node, and it is tied after them
@@ -162,7 +161,7 @@ tied_received place octets outcome (event ∷ rest) node setting history (here, 
     subst (λ (l : List Event). IsTied node (event ∷ (l ++ history))) (sym none)
     (λ unit taken is. tied unit taken (sym (judged setting history verdict outcome event takes unit) ∙ is))
 
-courses_answer : (outcome : Outcome) (own : Option Connection) → course_of (answering outcome own) ≡ course_of own
+courses_answer : (outcome : Outcome) (own : Option Connection) → progress_of (answering outcome own) ≡ progress_of own
 courses_answer (outcomes.Answered octets) own = courses_sent octets.items own
 courses_answer (outcomes.HandedOn frames) own = refl
 courses_answer outcomes.Nothing own = refl
@@ -181,7 +180,7 @@ tied_comes (Active unit) setting history place octets old new more (earlier, eve
     (tied_only Replaced earlier old new (events ++ history) only (tied_came place unit earlier old setting history events comes lives tied)))
 tied_comes UnitData setting history place octets old new more (outcome, receives, link, here, others, skips) lives tied =
     tied_received place octets outcome more new setting history receives
-    (tied_courses old new history (courses_at place old new (ap course_of here ∙ courses_answer outcome (connection_in old place)) others) tied)
+    (tied_courses old new history (courses_at place old new (ap progress_of here ∙ courses_answer outcome (connection_in old place)) others) tied)
 tied_comes (Close why) setting history place octets old new more (is, link, only, skips) lives tied =
     subst (λ (l : List Event). IsTied new (l ++ history)) (sym is) (tied_only why (Some place) old new history only tied)
 
@@ -210,25 +209,25 @@ tied_ends place history more old new ends tied = elim ends [
 ]
 
 tied_hears : (setting : Setting) (place : ℕ) (messages : List IpaMessage) (history : List Event) (old new : Node)
-    → HearsEach setting history place messages old new → IsTied old history → Ties setting new
+    → HearsOn setting history place messages old new → IsTied old history → Ties setting new
 tied_hears setting place [] history old new (more, ends, led) tied = (more ++ history, led, tied_ends place history more old new ends tied)
 tied_hears setting place (message ∷ messages) history old new (next, mid, (is, only), way, each) tied =
     tied_hears setting place messages (way.more ++ history) mid new each
     (tied_steps setting history place message next mid way (lives_read _ _ message is)
     (tied_courses old next history (courses_at place old next (courses_next _ _ (Some message) is) only.others) tied))
 
-pub keeps_hearing : (place : ℕ) (octets : List ℕ) (old new : Node) → Hearing place octets old new → KeepsTied old new
+pub keeps_hearing : (place : ℕ) (octets : List ℕ) (old new : Node) → HearingOn place octets old new → KeepsTied old new
 keeps_hearing place octets old new hears = keeps_by old new (λ setting history led tied.
     let so = hears setting history led in
     tied_hears setting place so.3 history so.0 new so.4
-    (tied_courses old so.0 history (courses_at place old so.0 (ap course_of so.1 ∙ courses_fed octets (connection_in old place)) so.2.others) tied))
+    (tied_courses old so.0 history (courses_at place old so.0 (ap progress_of so.1 ∙ courses_fed octets (connection_in old place)) so.2.others) tied))
 
 -- a message of the link
 courses_put : (sent : Sending) (old new : Node) → Puts sent old new → CoursesStay old new
 courses_put (sendings.By unit_data) old new (here, others) =
-    courses_at unit_data.connection old new (ap course_of here ∙ courses_sent unit_data.octets.items (connection_in old unit_data.connection)) others
-courses_put sendings.NoConnection old new same = λ place. ap course_of (same place)
-courses_put sendings.TooLong old new same = λ place. ap course_of (same place)
+    courses_at unit_data.connection old new (ap progress_of here ∙ courses_sent unit_data.octets.items (connection_in old unit_data.connection)) others
+courses_put sendings.NoConnection old new same = λ place. ap progress_of (same place)
+courses_put sendings.TooLong old new same = λ place. ap progress_of (same place)
 
 tied_forwards : (setting : Setting) (messages : List (List ℕ)) (history : List Event) (old new : Node)
     → ForwardsEach setting history messages old new → IsTied old history → Ties setting new

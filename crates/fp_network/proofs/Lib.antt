@@ -1,5 +1,6 @@
 mod Arriving
 mod Changing
+mod Cutting
 mod Ending
 mod First
 mod Following
@@ -8,6 +9,7 @@ mod Hearing
 mod Keeping
 mod Leaves
 mod News
+mod Reporting
 mod Tallied
 mod Ticking
 mod Tied

@@ -1,21 +1,99 @@
 -- Events that weren't returned are still the next ones, and those of a call follow them.
-use Rattle.std.proofs.Common.{◌≡◌, ◌≤◌, ℕ, cond, List, [], ◌∷◌, ◌++◌, Ok, Err, OnErr, Result, is_ok, length, length-append, append_assoc, append-nil, arith, inl, inr, refl, sym, ap, ◌∙◌}
+use Rattle.std.proofs.Common.{◌≡◌, ◌⊎◌, ◌≤◌, ℕ, cond, List, [], ◌∷◌, ◌++◌, Ok, Err, OnErr, Result, is_ok, length, length-append, append_assoc, append-nil, arith, inl, inr, refl, sym, subst, ap, ◌∙◌}
 use Rattle.std.specs.VecDeque.{deque_capacity}
 use Rattle.fp_network.specs.declared.event.NetworkEvent.{NetworkEvent}
 use Rattle.fp_network.specs.declared.node.Node.{Node}
-use Rattle.fp_network.specs.Counting.{AreSome, NewsGrow, Notes}
+use Rattle.fp_network.specs.Counting.{AreSome, IsAmong, NewsGrow, Notes, Reports}
 
-pub news_same : (old new : Node) → new.news ≡ old.news → NewsGrow old new
-news_same old new same = record { more = []; grow = ap (λ news. news.items) same ∙ sym (append-nil old.news.items) }
+-- no event is added
+pub notes_none : (old new : Node) → new.news ≡ old.news → Notes [] old new
+notes_none old new same = record {
+  more = [];
+  grow = ap (λ news. news.items) same ∙ sym (append-nil old.news.items);
+  some = tt;
+  all = inl refl;
+  room = let is = ap deque_capacity same in omega (arith, is);
+}
 
-pub news_noted : (events : List NetworkEvent) (old new : Node) → Notes events old new → NewsGrow old new
-news_noted events old new so = record { more = so.more; grow = so.grow }
+unfoldable pub news_noted : (events : List NetworkEvent) (old new : Node) → Notes events old new → NewsGrow old new
+news_noted events old new so = record { more = so.more; grow = so.grow; room = so.room }
 
-pub news_then : (old mid new : Node) → NewsGrow old mid → NewsGrow mid new → NewsGrow old new
+unfoldable pub news_same : (old new : Node) → new.news ≡ old.news → NewsGrow old new
+news_same old new same = let so = notes_none old new same in record {
+  more = [];
+  grow = ap (λ news. news.items) same ∙ sym (append-nil old.news.items);
+  room = so.room;
+}
+
+pub same_silent : (event : NetworkEvent) (old new : Node) (same : new.news ≡ old.news) → IsAmong event (news_same old new same).more → ⊥
+unfolding news_same
+same_silent event old new same among = among
+
+unfoldable pub news_then : (old mid new : Node) → NewsGrow old mid → NewsGrow mid new → NewsGrow old new
 news_then old mid new first then = record {
   more = first.more ++ then.more;
   grow = then.grow ∙ ap (λ l. l ++ then.more) first.grow ∙ append_assoc old.news.items first.more then.more;
+  room = let one = first.room in let other = then.room in omega (arith, one, other);
 }
+
+news_longer : (mid new : Node) → NewsGrow mid new → length mid.news.items ≤ length new.news.items
+news_longer mid new then = let is = ap length then.grow ∙ length-append mid.news.items then.more in omega (arith, is)
+
+-- one of some events, or of others
+among_left : (event : NetworkEvent) (some others : List NetworkEvent) → IsAmong event some → IsAmong event (some ++ others)
+among_left event [] others is = absurd is
+among_left event (first ∷ some) others is = elim is [
+  | inl here ↦ inl here
+  | inr on ↦ inr (among_left event some others on)
+]
+
+among_right : (event : NetworkEvent) (some others : List NetworkEvent) → IsAmong event others → IsAmong event (some ++ others)
+among_right event [] others is = is
+among_right event (first ∷ some) others is = inr (among_right event some others is)
+
+pub among_either : (event : NetworkEvent) (some others : List NetworkEvent) → IsAmong event (some ++ others) → IsAmong event some ⊎ IsAmong event others
+among_either event [] others is = inr is
+among_either event (first ∷ some) others is = elim is [
+  | inl here ↦ inl (inl here)
+  | inr on ↦ elim (among_either event some others on) [
+    | inl left ↦ inl (inr left)
+    | inr right ↦ inr right
+  ]
+]
+
+-- one of those of the events that are there
+pub among_some : (event : NetworkEvent) (some events : List NetworkEvent) → AreSome some events → IsAmong event some → IsAmong event events
+among_some event [] events are is = absurd is
+among_some event (one ∷ some) [] are is = absurd are
+among_some event (one ∷ some) (first ∷ events) are is = elim are [
+  | inl same ↦ elim is [
+    | inl here ↦ inl (here ∙ same.0)
+    | inr on ↦ inr (among_some event some events same.1 on)
+  ]
+  | inr on ↦ inr (among_some event (one ∷ some) events on is)
+]
+
+-- an event of the first of two calls, or of the second one
+pub reports_first : (event : NetworkEvent) (some : List NetworkEvent) (old mid new : Node) (then : NewsGrow mid new) → Reports event some old mid
+    → Reports event (some ++ then.more) old new
+reports_first event some old mid new then so = elim so [
+  | inl is ↦ inl (among_left event some then.more is)
+  | inr full ↦ inr (let long = news_longer mid new then in omega (arith, full, long))
+]
+
+pub reports_then : (event : NetworkEvent) (some : List NetworkEvent) (old mid new : Node) (first : NewsGrow old mid) → Reports event some mid new
+    → Reports event (first.more ++ some) old new
+reports_then event some old mid new first so = elim so [
+  | inl is ↦ inl (among_right event first.more some is)
+  | inr full ↦ inr (let room = first.room in omega (arith, full, room))
+]
+
+-- the one event of a call
+pub reports_one : (event : NetworkEvent) (old new : Node) (notes : Notes (event ∷ []) old new) → Reports event notes.more old new
+reports_one event old new notes = elim notes.all [
+  | inl is ↦ inl (subst (λ (more : List NetworkEvent). IsAmong event more) (sym is) (inl refl))
+  | inr full ↦ inr full
+]
 
 -- an event is added, or memory ran out for it
 pub noted : {T E : Type 0} (event : NetworkEvent) (old new : Node) (result : Result T E) (count : ℕ) → count ≡ length old.news.items

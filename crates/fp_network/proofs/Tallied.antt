@@ -1,7 +1,8 @@
 -- Each connection that is closed is counted once.
-use Rattle.std.proofs.Common.{◌≡◌, ℕ, zero, suc, ◌<◌, Bool, true, false, not, ◌&&◌, nat_eq, List, [], ◌∷◌, Option, Some, None, arith, inl, inr, length, is_some, refl, sym, subst, ap, ◌∙◌}
+use Rattle.std.proofs.Common.{◌≡◌, ℕ, zero, suc, ◌<◌, Bool, true, false, not, ◌&&◌, nat_eq, List, [], ◌∷◌, Option, Some, None, arith, inl, inr, length, is_some, slice_get, refl, sym, subst, ap, ◌∙◌}
 use Rattle.std.proofs.lemmas.Bool.{cases_Bool, cases_lt, eqb-false, eqb-true, false≢true}
 use Rattle.std.proofs.lemmas.List.{get_or_past}
+use Rattle.std.proofs.lemmas.Option.{none-some}
 use Rattle.std.specs.Option.{option_map}
 use Rattle.fp_adaptor.specs.Counted.{one_more}
 use Rattle.fp_ipa.specs.declared.message.IpaMessage.{IpaMessage}
@@ -11,21 +12,39 @@ use Rattle.fp_network.specs.declared.connection.Connection.{Connection}
 use Rattle.fp_network.specs.declared.course.Course.{Course}
 use Rattle.fp_network.specs.declared.course.Course.TheVariants.{Open, Draining, Shut, Over}
 use Rattle.fp_network.specs.declared.event.Closing.{Closing}
+use Rattle.fp_network.specs.declared.event.NetworkEvent.{NetworkEvent}
 use Rattle.fp_network.specs.declared.event.NetworkEvent.TheVariants.{Gone}
 use Rattle.fp_network.specs.declared.node.Node.{Node}
 use Rattle.fp_network.specs.declared.tally.Tally.{Tally}
 use Rattle.fp_network.specs.Changes.{closing, is_slow, sending, sending_if}
-use Rattle.fp_network.specs.Counting.{Counts, NewsGrow, Notes, closes_for, counted_below, counted_if, course_at, course_of, is_reason, number_of, reason_of}
+use Rattle.fp_network.specs.Counting.{Counts, IsAmong, NewsGrow, Notes, Reports, active_for, active_of, closes_for, counted_below, counted_if, course_at, course_of, is_reason, number_of, reason_of}
 use Rattle.fp_network.specs.Course.{closed, closing_of}
 use Rattle.fp_network.specs.Node.{LeavesOthers, connection_at, connection_in, is_over_at, is_over_of}
 use Rattle.fp_network.specs.Receiving.{NextIf, NextIn, feeding}
 use Rattle.fp_network.specs.Stepping.{ArrivesIf, ArrivesIn}
 use Rattle.fp_network.specs.Tally.{closed_once_more, closings_of}
-use Rattle.fp_network.proofs.News.{news_noted, news_same, news_then}
+use Rattle.fp_network.proofs.First.{same_some}
+use Rattle.fp_network.proofs.News.{among_either, among_some, news_noted, news_same, news_then, reports_first, reports_one, reports_then, same_silent}
+
+-- the number of a connection and how far it is from its end, if there is one
+abbrev pub progress_of : Option Connection → Option (ℕ × Course)
+progress_of None = None
+progress_of (Some own) = Some (own.number, own.course)
 
 -- no connection is nearer to its end
 abbrev pub CoursesStay : Node → Node → Type 0
-CoursesStay old new = (place : ℕ) → course_at new place ≡ course_at old place
+CoursesStay old new = (place : ℕ) → progress_of (connection_in new place) ≡ progress_of (connection_in old place)
+
+abbrev course_by : Option (ℕ × Course) → Option Course
+course_by None = None
+course_by (Some own) = Some own.1
+
+course_is : (own : Option Connection) → course_of own ≡ course_by (progress_of own)
+course_is None = refl
+course_is (Some own) = refl
+
+course_same : (one other : Option Connection) → progress_of one ≡ progress_of other → course_of one ≡ course_of other
+course_same one other same = course_is one ∙ ap course_by same ∙ sym (course_is other)
 
 -- whether a connection is to be closed, and why, follows from its course
 abbrev over_by : Option Course → Bool
@@ -36,8 +55,11 @@ over_is : (own : Option Connection) → is_over_of own ≡ over_by (course_of ow
 over_is None = refl
 over_is (Some own) = refl
 
-pub over_same : (one other : Option Connection) → course_of one ≡ course_of other → is_over_of one ≡ is_over_of other
-over_same one other same = over_is one ∙ ap over_by same ∙ sym (over_is other)
+over_of_course : (one other : Option Connection) → course_of one ≡ course_of other → is_over_of one ≡ is_over_of other
+over_of_course one other same = over_is one ∙ ap over_by same ∙ sym (over_is other)
+
+pub over_same : (one other : Option Connection) → progress_of one ≡ progress_of other → is_over_of one ≡ is_over_of other
+over_same one other same = over_of_course one other (course_same one other same)
 
 abbrev why_by : Option Course → Option Closing
 why_by None = None
@@ -50,9 +72,25 @@ why_is (Some own) = refl
 why_same : (one other : Option Connection) → course_of one ≡ course_of other → reason_of one ≡ reason_of other
 why_same one other same = why_is one ∙ ap why_by same ∙ sym (why_is other)
 
-none_if : (why : Option Closing) → is_some why ≡ false → why ≡ None
+-- and its number doesn't change
+abbrev number_by : Option (ℕ × Course) → Option ℕ
+number_by None = None
+number_by (Some own) = Some own.0
+
+number_is : (own : Option Connection) → number_of own ≡ number_by (progress_of own)
+number_is None = refl
+number_is (Some own) = refl
+
+number_same : (one other : Option Connection) → progress_of one ≡ progress_of other → number_of one ≡ number_of other
+number_same one other same = number_is one ∙ ap number_by same ∙ sym (number_is other)
+
+pub none_if : (why : Option Closing) → is_some why ≡ false → why ≡ None
 none_if None is = refl
 none_if (Some why) is = absurd (false≢true (sym is))
+
+over_for : (why : Closing) (own : Option Connection) → reason_of own ≡ Some why → is_over_of own ≡ true
+over_for why None is = absurd (none-some _ is)
+over_for why (Some own) is = ap is_some is
 
 why_none : (own : Option Connection) → is_over_of own ≡ false → reason_of own ≡ None
 why_none None lives = refl
@@ -114,6 +152,7 @@ counted_then why false false is then count over none same =
     ap (λ (r : Option Closing). counted_if (is_reason why then) (counted_if (is_reason why r) count)) (none refl)
 
 pub counts_more : (old mid new : Node) → length mid.places.items ≡ length old.places.items → Counts old mid → Counts mid new → Counts old new
+unfolding news_then
 counts_more old mid new long first then = record {
   each = λ why.
       then.each why
@@ -122,14 +161,38 @@ counts_more old mid new long first then = record {
       ∙ below_then (length old.places.items) (closings_of old.tally why) (closes_for why old mid) (closes_for why mid new) (closes_for why old new)
       (λ place count. counted_then why (is_over_at old place) (is_over_at mid place) (reason_of (connection_in mid place))
       (reason_of (connection_in new place)) count (over_mid place) (why_none (connection_in mid place))
-      (λ over. why_same (connection_in new place) (connection_in mid place) (then.stay place over)));
+      (why_on place));
   stay = λ place over. then.stay place (over_mid place over) ∙ first.stay place over;
   connections = then.connections ∙ first.connections;
+  numbers = λ place. then.numbers place ∙ first.numbers place;
   news = news_then old mid new first.news then.news;
+  reported = λ place number why so. elim (cases_Bool (is_over_at mid place)) [
+    | inl over ↦ reports_first (Gone number why) first.news.more old mid new then.news
+        (first.reported place number why (so.0, sym (why_on place over) ∙ so.1, so.2))
+    | inr lives ↦ reports_then (Gone number why) then.news.more old mid new first.news
+        (then.reported place number why (lives, so.1, first.numbers place ∙ so.2))
+  ];
+  only = λ number why among. elim (among_either (Gone number why) first.news.more then.news.more among) [
+    | inl is ↦
+        let so = first.only number why is in
+        (so.0, (so.1.0, why_on so.0 (over_for why (connection_in mid so.0) so.1.1) ∙ so.1.1, so.1.2))
+    | inr is ↦
+        let so = then.only number why is in
+        (so.0, (lived so.0 so.1.0, so.1.1, sym (first.numbers so.0) ∙ so.1.2))
+  ];
 }
   where
     over_mid : (place : ℕ) → is_over_at old place ≡ true → is_over_at mid place ≡ true
-    over_mid place over = over_same (connection_in mid place) (connection_in old place) (first.stay place over) ∙ over
+    over_mid place over = over_of_course (connection_in mid place) (connection_in old place) (first.stay place over) ∙ over
+
+    why_on : (place : ℕ) → is_over_at mid place ≡ true → reason_of (connection_in new place) ≡ reason_of (connection_in mid place)
+    why_on place over = why_same (connection_in new place) (connection_in mid place) (then.stay place over)
+
+    lived : (place : ℕ) → is_over_at mid place ≡ false → is_over_at old place ≡ false
+    lived place lives = elim (cases_Bool (is_over_at old place)) [
+      | inl over ↦ absurd (false≢true (sym lives ∙ over_mid place over))
+      | inr before ↦ before
+    ]
 
 -- nothing is closed
 unless_over : (why : Closing) (over : Bool) (is : Option Closing) → (over ≡ false → is ≡ None) → (not over && is_reason why is) ≡ false
@@ -142,76 +205,117 @@ not_closed why old new place same =
     (λ lives. why_same (connection_in new place) (connection_in old place) same ∙ why_none (connection_in old place) lives)
 
 pub counts_same : (old new : Node) → ((why : Closing) → closings_of new.tally why ≡ closings_of old.tally why)
-    → new.tally.connections ≡ old.tally.connections → CoursesStay old new → NewsGrow old new → Counts old new
-counts_same old new tally connections same news = record {
+    → new.tally.connections ≡ old.tally.connections → CoursesStay old new → (news : NewsGrow old new)
+    → ((number : ℕ) (why : Closing) → IsAmong (Gone number why) news.more → ⊥) → Counts old new
+counts_same old new tally connections same news silent = record {
   each = λ why.
       tally why
       ∙ sym (below_none (length old.places.items) (closings_of old.tally why) (closes_for why old new)
-      (λ place below. not_closed why old new place (same place)));
-  stay = λ place over. same place;
+      (λ place below. not_closed why old new place (courses place)));
+  stay = λ place over. courses place;
   connections = connections;
+  numbers = λ place. number_same (connection_in new place) (connection_in old place) (same place);
   news = news;
+  reported = λ place number why so.
+      absurd (none-some _ (sym (why_none (connection_in old place) so.0) ∙ sym (why_same (connection_in new place) (connection_in old place) (courses place)) ∙ so.1));
+  only = λ number why among. absurd (silent number why among);
 }
+  where
+    courses : (place : ℕ) → course_at new place ≡ course_at old place
+    courses place = course_same (connection_in new place) (connection_in old place) (same place)
 
 -- the connection in one place has another course, or not
-pub courses_at : (place : ℕ) (old new : Node) → course_at new place ≡ course_at old place → LeavesOthers place old new → CoursesStay old new
+pub courses_at : (place : ℕ) (old new : Node) → progress_of (connection_in new place) ≡ progress_of (connection_in old place)
+    → LeavesOthers place old new → CoursesStay old new
 courses_at place old new here others other = elim (cases_Bool (nat_eq other place)) [
-  | inl is ↦ subst (λ (other : ℕ). course_at new other ≡ course_at old other) (sym (eqb-true other place is)) here
-  | inr apart ↦ ap course_of (others other (eqb-false other place apart))
+  | inl is ↦ subst (λ (other : ℕ). progress_of (connection_in new other) ≡ progress_of (connection_in old other)) (sym (eqb-true other place is)) here
+  | inr apart ↦ ap progress_of (others other (eqb-false other place apart))
 ]
 
-pub courses_map : (change : Connection → Connection) → ((own : Connection) → (change own).course ≡ own.course) → (own : Option Connection)
-    → course_of (option_map change own) ≡ course_of own
+pub courses_map : (change : Connection → Connection) → ((own : Connection) → progress_of (Some (change own)) ≡ progress_of (Some own))
+    → (own : Option Connection) → progress_of (option_map change own) ≡ progress_of own
 courses_map change same None = refl
-courses_map change same (Some own) = ap Some (same own)
+courses_map change same (Some own) = same own
 
 -- octets are read, a message is read, comes or is sent
-pub courses_fed : (octets : List ℕ) (own : Option Connection) → course_of (option_map (feeding octets) own) ≡ course_of own
+pub courses_fed : (octets : List ℕ) (own : Option Connection) → progress_of (option_map (feeding octets) own) ≡ progress_of own
 courses_fed octets = courses_map (feeding octets) (λ own. refl)
 
-sends_if : (fits written : Bool) (octets : List ℕ) (own : Connection) → (sending_if fits written octets own).course ≡ own.course
+sends_if : (fits written : Bool) (octets : List ℕ) (own : Connection)
+    → progress_of (Some (sending_if fits written octets own)) ≡ progress_of (Some own)
 sends_if true true octets own = refl
 sends_if true false octets own = refl
 sends_if false written octets own = refl
 
-pub courses_sent : (octets : List ℕ) (own : Option Connection) → course_of (option_map (sending octets) own) ≡ course_of own
+pub courses_sent : (octets : List ℕ) (own : Option Connection) → progress_of (option_map (sending octets) own) ≡ progress_of own
 courses_sent octets = courses_map (sending octets) (λ own. sends_if _ _ octets own)
 
 next_if : (over : Bool) (old : Connection) (new : Option Connection) (message : Option IpaMessage) → NextIf over old new message
-    → course_of new ≡ course_of (Some old)
-next_if true old new message so = ap course_of so.0
-next_if false old new message so = ap course_of so.1
+    → progress_of new ≡ progress_of (Some old)
+next_if true old new message so = ap progress_of so.0
+next_if false old new message so = ap progress_of so.1
 
-pub courses_next : (old new : Option Connection) (message : Option IpaMessage) → NextIn old new message → course_of new ≡ course_of old
-courses_next None new message so = ap course_of so.0
+pub courses_next : (old new : Option Connection) (message : Option IpaMessage) → NextIn old new message → progress_of new ≡ progress_of old
+courses_next None new message so = ap progress_of so.0
 courses_next (Some old) new message so = next_if (is_some (closing_of old.course)) old new message so
 
 arrives_if : (slow : Bool) (names : List (List ℕ)) (drains : Bool) (stream : StreamIdentifier) (octets : List ℕ) (old new : Connection)
-    (arrival : Arrival) → ArrivesIf slow names drains stream octets old new arrival → new.course ≡ old.course
-arrives_if true names drains stream octets old new arrival so = ap (λ (own : Connection). own.course) so.0
-arrives_if false names drains stream octets old new arrival so = ap (λ (own : Connection). own.course) so.same
+    (arrival : Arrival) → ArrivesIf slow names drains stream octets old new arrival → progress_of (Some new) ≡ progress_of (Some old)
+arrives_if true names drains stream octets old new arrival so = ap (λ (own : Connection). progress_of (Some own)) so.0
+arrives_if false names drains stream octets old new arrival so = ap (λ (own : Connection). progress_of (Some own)) so.same
 
 pub courses_arrived : (names : List (List ℕ)) (drains : Bool) (stream : StreamIdentifier) (octets : List ℕ) (old new : Option Connection)
-    (arrival : Arrival) → ArrivesIn names drains stream octets old new arrival → course_of new ≡ course_of old
-courses_arrived names drains stream octets None new arrival so = ap course_of so.0
+    (arrival : Arrival) → ArrivesIn names drains stream octets old new arrival → progress_of new ≡ progress_of old
+courses_arrived names drains stream octets None new arrival so = ap progress_of so.0
 courses_arrived names drains stream octets (Some old) new arrival so =
-    ap course_of so.1 ∙ ap Some (arrives_if (is_slow old) names drains stream octets old so.0 arrival so.2)
+    ap progress_of so.1 ∙ arrives_if (is_slow old) names drains stream octets old so.0 arrival so.2
 
 -- a call changes the connection in one place, but not its course, and counts none
-pub counts_at : (place : ℕ) (old new : Node) → course_at new place ≡ course_at old place → LeavesOthers place old new → new.tally ≡ old.tally
-    → new.news ≡ old.news → Counts old new
+pub counts_at : (place : ℕ) (old new : Node) → progress_of (connection_in new place) ≡ progress_of (connection_in old place)
+    → LeavesOthers place old new → new.tally ≡ old.tally → new.news ≡ old.news → Counts old new
 counts_at place old new here others tally news =
     counts_same old new (λ why. ap (λ (t : Tally). closings_of t why) tally) (ap (λ (t : Tally). t.connections) tally)
-    (courses_at place old new here others) (news_same old new news)
+    (courses_at place old new here others) (news_same old new news) (λ number why. same_silent (Gone number why) old new news)
 
 -- a call changes no connection, and counts none
-pub counts_places : (old new : Node) → new.places ≡ old.places → new.tally ≡ old.tally → NewsGrow old new → Counts old new
-counts_places old new places tally news =
+pub counts_places : (old new : Node) → new.places ≡ old.places → new.tally ≡ old.tally → (news : NewsGrow old new)
+    → ((number : ℕ) (why : Closing) → IsAmong (Gone number why) news.more → ⊥) → Counts old new
+counts_places old new places tally =
     counts_same old new (λ why. ap (λ (t : Tally). closings_of t why) tally) (ap (λ (t : Tally). t.connections) tally)
-    (λ place. ap (λ places. course_of (connection_at places.items place)) places) news
+    (λ place. ap (λ places. progress_of (connection_at places.items place)) places)
 
 pub counts_none : (old new : Node) → new.places ≡ old.places → new.tally ≡ old.tally → new.news ≡ old.news → Counts old new
-counts_none old new places tally news = counts_places old new places tally (news_same old new news)
+counts_none old new places tally news = counts_places old new places tally (news_same old new news) (λ number why. same_silent (Gone number why) old new news)
+
+-- the event of a connection that is active reports none over
+abbrev reason_in : NetworkEvent → Option Closing
+reason_in (Gone number why) = Some why
+reason_in event = None
+
+abbrev number_in : NetworkEvent → Option ℕ
+number_in (Gone number why) = Some number
+number_in event = None
+
+active_for_stays : (event : NetworkEvent) (why : Closing) (number : ℕ) (named : Option (List ℕ)) → reason_in event ≡ Some why
+    → IsAmong event (active_for number named) → ⊥
+active_for_stays event why number None gone among = among
+active_for_stays event why number (Some unit) gone among = elim among [
+  | inl is ↦ none-some _ (sym (ap reason_in is) ∙ gone)
+  | inr none ↦ none
+]
+
+active_stays : (event : NetworkEvent) (why : Closing) (names : List (List ℕ)) (unit : ℕ) (own : Option Connection) → reason_in event ≡ Some why
+    → IsAmong event (active_of names unit own) → ⊥
+active_stays event why names unit None gone among = among
+active_stays event why names unit (Some own) gone among = active_for_stays event why own.number (slice_get names unit) gone among
+
+pub counts_active : (names : List (List ℕ)) (unit : ℕ) (own : Option Connection) (old new : Node) → new.places ≡ old.places
+    → new.tally ≡ old.tally → Notes (active_of names unit own) old new → Counts old new
+unfolding news_noted
+counts_active names unit own old new places tally notes =
+    counts_places old new places tally (news_noted (active_of names unit own) old new notes) (λ number why among.
+    active_stays (Gone number why) why names unit own refl
+    (among_some (Gone number why) notes.more (active_of names unit own) notes.some among))
 
 -- the connection in one place is closed
 closed_stays : (why : Closing) (course : Course) → is_some (closing_of course) ≡ true → closed why course ≡ course
@@ -220,11 +324,11 @@ closed_stays why (Draining since) over = absurd (false≢true over)
 closed_stays why (Shut since) over = absurd (false≢true over)
 closed_stays why (Over first) over = refl
 
-pub closing_stays : (why : Closing) (own : Option Connection) → is_over_of own ≡ true → course_of (option_map (closing why) own) ≡ course_of own
+pub closing_stays : (why : Closing) (own : Option Connection) → is_over_of own ≡ true → progress_of (option_map (closing why) own) ≡ progress_of own
 closing_stays why None over = refl
-closing_stays why (Some own) over = ap Some (closed_stays why own.course over)
+closing_stays why (Some own) over = ap (λ (course : Course). Some (own.number, course)) (closed_stays why own.course over)
 
-closed_for : (why : Closing) (course : Course) → is_some (closing_of course) ≡ false → closing_of (closed why course) ≡ Some why
+pub closed_for : (why : Closing) (course : Course) → is_some (closing_of course) ≡ false → closing_of (closed why course) ≡ Some why
 closed_for why Open lives = refl
 closed_for why (Draining since) lives = refl
 closed_for why (Shut since) lives = refl
@@ -234,16 +338,32 @@ closing_for : (why : Closing) (own : Option Connection) → is_over_of own ≡ f
 closing_for why None lives = absurd (false≢true (sym lives))
 closing_for why (Some own) lives = closed_for why own.course lives
 
+abbrev closing_or : Closing → Option Closing → Closing
+closing_or other None = other
+closing_or other (Some why) = why
+
+closing_number : (why : Closing) (own : Option Connection) → number_of (option_map (closing why) own) ≡ number_of own
+closing_number why None = refl
+closing_number why (Some own) = refl
+
+-- the one that is closed is reported, under its number and for the reason
+reports_closing : (why other : Closing) (number named : ℕ) (old new : Node) (notes : Notes (Gone number why ∷ []) old new) → Some why ≡ Some other
+    → Some number ≡ Some named → Reports (Gone named other) notes.more old new
+reports_closing why other number named old new notes is same =
+    subst (λ (event : NetworkEvent). Reports event notes.more old new) (λ i. Gone (same_some number named same i) (closing_or why (is i)))
+    (reports_one (Gone number why) old new notes)
+
 pub counts_one : (why : Closing) (place : ℕ) (old new : Node) → connection_in new place ≡ option_map (closing why) (connection_in old place)
     → LeavesOthers place old new → (is_over_at old place ≡ true → new.tally ≡ old.tally)
     → (is_over_at old place ≡ false → (other : Closing) → closings_of new.tally other ≡ closed_once_more why other (closings_of old.tally other))
     → (is_over_at old place ≡ true → new.news ≡ old.news)
     → (is_over_at old place ≡ false → (number : ℕ) × (number_of (connection_in old place) ≡ Some number) × Notes (Gone number why ∷ []) old new)
     → new.tally.connections ≡ old.tally.connections → Counts old new
+unfolding news_noted
 counts_one why place old new here others stays counts silent reports connections = elim (cases_Bool (is_over_at old place)) [
   | inl over ↦ counts_same old new (λ other. ap (λ (t : Tally). closings_of t other) (stays over)) connections
-      (courses_at place old new (ap course_of here ∙ closing_stays why (connection_in old place) over) others)
-      (news_same old new (silent over))
+      (courses_at place old new (ap progress_of here ∙ closing_stays why (connection_in old place) over) others)
+      (news_same old new (silent over)) (λ number reason. same_silent (Gone number reason) old new (silent over))
   | inr lives ↦ record {
     each = λ other.
         counts lives other
@@ -252,7 +372,35 @@ counts_one why place old new here others stays counts silent reports connections
         (λ away apart. not_closed other old new away (ap course_of (others away apart))));
     stay = λ other over. ap course_of (others other (λ is. false≢true (sym lives ∙ ap (is_over_at old) (sym is) ∙ over)));
     connections = connections;
+    numbers = λ other. elim (cases_Bool (nat_eq other place)) [
+      | inl is ↦ subst (λ (other : ℕ). number_of (connection_in new other) ≡ number_of (connection_in old other)) (sym (eqb-true other place is))
+          (ap number_of here ∙ closing_number why (connection_in old place))
+      | inr apart ↦ ap number_of (others other (eqb-false other place apart))
+    ];
     news = let report = reports lives in news_noted (Gone report.0 why ∷ []) old new report.2;
+    reported = λ other number reason so. elim (cases_Bool (nat_eq other place)) [
+      | inl at ↦
+          let report = reports lives in
+          let same = eqb-true other place at in
+          reports_closing why reason report.0 number old new report.2
+          (sym (closing_for why (connection_in old place) lives) ∙ ap reason_of (sym here ∙ ap (connection_in new) (sym same)) ∙ so.1)
+          (sym report.1 ∙ ap (λ (place : ℕ). number_of (connection_in old place)) (sym same) ∙ so.2)
+      | inr apart ↦
+          absurd (none-some _ (sym (why_none (connection_in old other) so.0) ∙ sym (ap reason_of (others other (eqb-false other place apart))) ∙ so.1))
+    ];
+    only = λ number reason among.
+        let report = reports lives in
+        elim (among_some (Gone number reason) report.2.more (Gone report.0 why ∷ []) report.2.some among) [
+          | inl is ↦ (
+            place,
+            (
+              lives,
+              ap reason_of here ∙ closing_for why (connection_in old place) lives ∙ sym (ap reason_in is),
+              report.1 ∙ sym (ap number_in is),
+            ),
+          )
+          | inr none ↦ absurd none
+        ];
   }
 ]
   where

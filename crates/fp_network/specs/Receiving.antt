@@ -1,5 +1,5 @@
 -- What becomes at a node of the octets of a connection.
-use Rattle.std.specs.Prelude.{◌≡◌, ℕ, Bool, true, false, ◌⊎◌, List, [], ◌∷◌, ◌++◌, Option, Some, None, is_some, option_map}
+use Rattle.std.specs.Prelude.{◌≡◌, ℕ, suc, Bool, true, false, ◌⊎◌, List, [], ◌++◌, length, map, Option, Some, None, is_some, option_map, slice_get}
 use Rattle.fp_adaptor.specs.declared.adaptor.Outcome.{Outcome}
 use Rattle.fp_adaptor.specs.declared.adaptor.Outcome.TheVariants as outcomes
 use Rattle.fp_adaptor.specs.declared.setting.Setting.{Setting}
@@ -9,7 +9,7 @@ use Rattle.fp_adaptor.specs.History.{Event}
 use Rattle.fp_ipa.specs.declared.fault.IpaFault.{IpaFault}
 use Rattle.fp_ipa.specs.declared.fault.IpaFault.TheVariants as faults
 use Rattle.fp_ipa.specs.declared.message.IpaMessage.{IpaMessage}
-use Rattle.fp_ipa.specs.Stream.{FaultSays, HandsOut}
+use Rattle.fp_ipa.specs.Stream.{FaultSays, HandsOut, Messages}
 use Rattle.fp_ipa.specs.View.{message_value}
 use Rattle.fp_network.specs.declared.arrival.Arrival.{Arrival}
 use Rattle.fp_network.specs.declared.arrival.Arrival.TheVariants.{Active, Close, Nothing, Skipped, UnitData}
@@ -120,20 +120,38 @@ NextOrEnd place old new None =
     (setting : Setting) (history : List Event) → Led old.adaptor setting history
     → (more : List Event) × EndsAt place old new more × Led new.adaptor setting (more ++ history)
 
--- these messages are read one after another, and the steps of each follow it
-abbrev pub HearsEach : Setting → List Event → ℕ → List IpaMessage → Node → Node → Type 0
-HearsEach setting history place [] old new =
-    (more : List Event) × EndsAt place old new more × Led new.adaptor setting (more ++ history)
-HearsEach setting history place (message ∷ messages) old new =
-    (next : Node) × (mid : Node) × NextOrEnd place old next (Some message)
-    × (way : Steps setting history place message next mid)
-    × HearsEach setting (way.more ++ history) place messages mid new
+-- the octets of a connection that weren't taken begin with these messages, and the rest is left
+abbrev pub IsCut : ℕ → List IpaMessage → Node → Node → Type 0
+IsCut place messages old new =
+    Messages (reader_of (connection_in old place)) (map message_value messages) (reader_of (connection_in new place))
 
--- Octets came by the connection in a place. Each message that is there whole is taken, in their order.
+-- the next message of the connection in a place is this one, and its steps follow
+abbrev pub Takes : Setting → ℕ → IpaMessage → Node → List Event → Node → List Event → Type 0
+Takes setting place message old history new later =
+    (next : Node) × NextOrEnd place old next (Some message)
+    × (way : Steps setting history place message next new) × (later ≡ way.more ++ history)
+
+-- These messages are taken one after another: there is a node, and the events that led to its adaptor, for each number
+-- of messages, from the old node on. After the last message there is no next one.
+pub record HearsEach (setting : Setting) (history : List Event) (place : ℕ)
+    (messages : List IpaMessage) (old new : Node) : Type 0 where
+  pub node : ℕ → Node
+  pub events : ℕ → List Event
+  pub first : (node 0 ≡ old) × (events 0 ≡ history)
+  pub each :
+      (count : ℕ) (message : IpaMessage) → slice_get messages count ≡ Some message
+      → Takes setting place message (node count) (events count) (node (suc count)) (events (suc count))
+  pub last :
+      (more : List Event) × EndsAt place (node (length messages)) new more
+      × Led new.adaptor setting (more ++ events (length messages))
+
+-- Octets came by the connection in a place, after those that were left. Each message with which these begin is taken,
+-- in their order, until the next one isn't whole, or is too long, or the connection is to be closed. The rest is left.
 abbrev pub Hearing : ℕ → List ℕ → Node → Node → Type 0
 Hearing place octets old new =
     (setting : Setting) (history : List Event) → Led old.adaptor setting history
     → (fed : Node)
     × (connection_in fed place ≡ option_map (feeding octets) (connection_in old place))
     × OnlyAt place old fed
-    × (messages : List IpaMessage) × HearsEach setting history place messages fed new
+    × (messages : List IpaMessage) × IsCut place messages fed new
+    × HearsEach setting history place messages fed new

@@ -80,8 +80,10 @@
 //!   [`Node::written_to_link`]).
 //! * After each call that gives no fault the adaptor is led by the events before the call, and then
 //!   by the call's own (`Led`).
-//! * Each connection that a call closes is counted once, for its reason. The events that weren't
-//!   returned are still the next ones, and others only follow them (`specs/Counting.antt`).
+//! * Each connection that a call closes is counted once, for its reason, and reported. The events
+//!   that weren't returned are still the next ones, and others only follow them. One is missing
+//!   only if the room that there was before the call is full after it ([`Node::EVENTS`],
+//!   `specs/Counting.antt`).
 //!
 //! No contract speaks of the sockets. The tests of `tests_serve` show how they are used, and
 //! `tools/sccp` does so against a transfer point.

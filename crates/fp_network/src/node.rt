@@ -80,7 +80,8 @@ impl Node {
     pub const PLACES: usize = 16;
 
     /// How many events a new node has room for. A turn of [`crate::NetworkLink`] adds at most 64:
-    /// for each place two of accepted connections, and two of the one that is there.
+    /// it accepts at most 16 connections, which came and may be over at once, and each of the 16
+    /// that are there may become active and be over.
     pub const EVENTS: usize = 128;
 
     /// A node without connections. `Err`: memory ran out.
@@ -97,7 +98,7 @@ impl Node {
         ensures connections { IfOk result (λ node. node.tally.connections ≡ 0) }
         ensures skipped { IfOk result (λ node. node.tally.skipped ≡ 0) }
         ensures news { IfOk result (λ node. node.news.items ≡ []) }
-        ensures room { IfOk result (λ node. Self.EVENTS ≤ deque_capacity node.news) }
+        ensures room { IfOk result (λ node. 128 ≤ deque_capacity node.news) }
     {
         let names = own_first(alloc, plan.units)?;
         let setting = Setting {

@@ -10,7 +10,7 @@ ghost use Rattle.fp_adaptor.specs.History.{Event};
 ghost use Rattle.fp_network.specs.declared.event.Closing.TheVariants.{Draining, LinkDown};
 ghost use Rattle.fp_network.specs.declared.event.NetworkEvent.TheVariants.{Gone};
 ghost use Rattle.fp_network.specs.Changes.{closing, counting_read, draining, reading_late, shutting, ticking, writing};
-ghost use Rattle.fp_network.specs.Counting.{Counts, Notes, number_of};
+ghost use Rattle.fp_network.specs.Counting.{Counts, Notes, ReportsEach, gone_at, number_of};
 ghost use Rattle.fp_network.specs.Endings.{EndsClosed, KeepsTied};
 ghost use Rattle.fp_network.specs.Receiving.{SkipsNone};
 ghost use Rattle.fp_network.specs.Node.{ChangesEach, IsToShut, LeavesLink, LeavesOthers, connection_in, for_link, has_common_of, is_draining_at, is_late_of, is_read_out_of, overdue_of, waiting_at};
@@ -136,6 +136,7 @@ impl Node {
         ensures ended { EndsClosed self.old self.new }
         ensures link { LeavesLink self.old self.new }
         ensures counted { Counts self.old self.new }
+        ensures reported { Notes (gone_at self.old self.new place) self.old self.new }
         ensures skipped { SkipsNone self.old self.new }
     {
         let Some(why) = self.overdue(place, at) else {
@@ -150,6 +151,7 @@ impl Node {
         ensures ended { EndsClosed self.old self.new }
         ensures link { LeavesLink self.old self.new }
         ensures counted { Counts self.old self.new }
+        ensures reported { ReportsEach self.old self.new }
         ensures skipped { SkipsNone self.old self.new }
         ensures tied { KeepsTied self.old self.new }
     {
@@ -256,6 +258,7 @@ impl Node {
         ensures ended { EndsClosed self.old self.new }
         ensures link { LeavesLink self.old self.new }
         ensures counted { Counts self.old self.new }
+        ensures reported { ReportsEach self.old self.new }
         ensures skipped { SkipsNone self.old self.new }
         ensures tied { KeepsTied self.old self.new }
     {

@@ -9,7 +9,7 @@ ghost use Rattle.fp_frames.specs.Frame.{framed};
 ghost use Rattle.fp_network.specs.Frames.{frames_of, framed_if};
 ghost use Rattle.fp_network.specs.Endings.{Activates, KeepsTied};
 ghost use Rattle.fp_network.specs.Changes.{IsLonger};
-ghost use Rattle.fp_network.specs.Counting.{Counts, NewsGrow};
+ghost use Rattle.fp_network.specs.Counting.{Counts, Notes, active_of};
 ghost use Rattle.fp_network.specs.Receiving.{FaultIn, Hearing, NextIn, NextOrEnd, Results, SkipsNone, Steps, answering, feeding, reader_of};
 ghost use Rattle.fp_network.specs.Stepping.{ArrivesIn};
 ghost use Rattle.fp_network.specs.Node.{Grows, Keeps, LeavesLink, LeavesOthers, WaitsOn, connection_in, for_link, frames_for, waiting_at};
@@ -56,7 +56,8 @@ impl Node {
         ensures places { self.new.places ≡ self.old.places }
         ensures adaptor { self.new.adaptor ≡ self.old.adaptor }
         ensures tally { self.new.tally ≡ self.old.tally }
-        ensures news { NewsGrow self.old self.new }
+        ensures news { Notes (active_of self.old.names.items unit
+            (connection_in self.old place)) self.old self.new }
     {
         let Some(connection) = self.at(place) else {
             return;

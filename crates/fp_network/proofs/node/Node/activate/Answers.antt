@@ -1,10 +1,10 @@
 use Rattle.std.proofs.Common.{◌++◌, sym, subst}
 use Rattle.fp_adaptor.specs.declared.adaptor.Adaptor.{Adaptor}
 use Rattle.fp_adaptor.specs.Adaptor.{Led}
-use Rattle.fp_network.specs.Node.{ended_at}
+use Rattle.fp_network.specs.Node.{connection_in, ended_at}
 use Rattle.fp_network.proofs.Ending.{closes_as}
 use Rattle.fp_network.proofs.Waits.{stays_more, waits_same}
-use Rattle.fp_network.proofs.Tallied.{counts_more, counts_places}
+use Rattle.fp_network.proofs.Tallied.{counts_more, counts_active}
 use Rattle.fp_network.proofs.node.Node.activate.Goals as goal
 
 pub returns-clause-came : goal.returns-clause-came
@@ -29,4 +29,5 @@ pub returns-clause-counted : goal.returns-clause-counted
 returns-clause-counted c =
     let note = c.note_active.ensures in
     counts_more c.args.self.now c.replace.new.self c.note_active.new.self c.replace.ensures.link.count c.replace.ensures.counted
-    (counts_places _ _ note.places note.tally note.news)
+    (counts_active c.replace.new.self.names.items c.args.unit (connection_in c.replace.new.self c.args.place) c.replace.new.self
+    c.note_active.new.self note.places note.tally note.news)

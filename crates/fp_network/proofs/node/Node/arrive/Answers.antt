@@ -1,6 +1,7 @@
 use Rattle.std.proofs.Common.{[], ap, refl, sym, subst}
 use Rattle.std.proofs.lemmas.Result.{on_ok_weaker}
 use Rattle.fp_network.specs.declared.arrival.Arrival.{Arrival}
+use Rattle.fp_network.specs.declared.event.NetworkEvent.TheVariants.{Gone}
 use Rattle.fp_network.specs.declared.tally.Tally.{Tally}
 use Rattle.fp_network.specs.Node.{ended_unless, is_over_at}
 use Rattle.fp_network.specs.Receiving.{Results}
@@ -8,7 +9,7 @@ use Rattle.fp_network.specs.Tally.{closings_of}
 use Rattle.fp_network.proofs.Growing.{grows_none}
 use Rattle.fp_network.proofs.Hearing.{closed_event, reads_closed, results_active}
 use Rattle.fp_network.proofs.Waits.{stays_same, waits_closed}
-use Rattle.fp_network.proofs.News.{news_same}
+use Rattle.fp_network.proofs.News.{news_same, same_silent}
 use Rattle.fp_network.proofs.Tallied.{counts_none, counts_one, counts_same}
 use Rattle.fp_network.proofs.node.Node.arrive.Goals as goal
 
@@ -77,6 +78,7 @@ returns-in-Nothing-clause-counted c = counts_none _ _ refl refl refl
 pub returns-in-Skipped-clause-counted : goal.returns-in-Skipped-clause-counted
 returns-in-Skipped-clause-counted c = counts_same _ _ (λ why. ap (λ (t : Tally). closings_of t why) c.skip.ensures)
     (ap (λ (t : Tally). t.connections) c.skip.ensures) (λ place. refl) (news_same _ _ refl)
+    (λ number why. same_silent (Gone number why) _ _ refl)
 
 pub returns-in-Close-clause-counted : goal.returns-in-Close-clause-counted
 returns-in-Close-clause-counted c =

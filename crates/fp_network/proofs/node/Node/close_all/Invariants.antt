@@ -5,6 +5,7 @@ use Rattle.fp_network.specs.Endings.{EndsClosed}
 use Rattle.fp_network.specs.Node.{LeavesLink}
 use Rattle.fp_network.specs.Receiving.{SkipsNone}
 use Rattle.fp_network.proofs.Changing.{Changing}
+use Rattle.fp_network.proofs.Reporting.{Reported}
 use Rattle.fp_network.proofs.node.Node.close_all.Given as goal
 
 -- the connections in the places so far are to be closed
@@ -14,5 +15,6 @@ invariant-loop-place l = record {
   ended : EndsClosed l.fn.self l.self;
   link : LeavesLink l.fn.self l.self;
   counted : Counts l.fn.self l.self;
+  reported : Reported l.place l.fn.self l.self;
   skipped : SkipsNone l.fn.self l.self;
 }

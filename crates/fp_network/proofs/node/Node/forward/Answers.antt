@@ -3,11 +3,10 @@ use Rattle.fp_adaptor.specs.declared.adaptor.Adaptor.{Adaptor}
 use Rattle.fp_adaptor.specs.declared.adaptor.Sending.TheVariants as sendings
 use Rattle.fp_adaptor.specs.Adaptor.{Led, what_became}
 use Rattle.fp_adaptor.specs.History.{said}
-use Rattle.fp_network.specs.Counting.{course_of}
 use Rattle.fp_network.specs.Node.{connection_in}
 use Rattle.fp_network.proofs.Tied.{tied_closes}
 use Rattle.fp_network.proofs.Waits.{sending_adds, stays_more, waits_change}
-use Rattle.fp_network.proofs.Tallied.{counts_at, counts_more, courses_sent}
+use Rattle.fp_network.proofs.Tallied.{counts_at, counts_more, courses_sent, progress_of}
 use Rattle.fp_network.proofs.node.Node.forward.Goals as goal
 
 pub returns-in_ok-send-in-By-clause-forwards : goal.returns-in_ok-send-in-By-clause-forwards
@@ -98,14 +97,30 @@ returns-in_ok-send-in-By-clause-counted c =
     let place = c.in-By.unit_data.connection in
     counts_more c.args.self.now c.make_way_for.new.self c.send-in-By.new.self c.make_way_for.ensures.link.count c.make_way_for.ensures.counted
     (counts_at place c.make_way_for.new.self c.send-in-By.new.self
-    (ap course_of send.here ∙ courses_sent _ (connection_in c.make_way_for.new.self place)) send.others send.tally send.news)
+    (ap progress_of send.here ∙ courses_sent _ (connection_in c.make_way_for.new.self place)) send.others send.tally send.news)
 
 pub returns-in-NoConnection-clause-counted : goal.returns-in-NoConnection-clause-counted
 returns-in-NoConnection-clause-counted c =
     let way = c.make_way_for.ensures.counted in
-    record { each = way.each; stay = way.stay; connections = way.connections; news = record { more = way.news.more; grow = way.news.grow } }
+    record {
+      each = way.each;
+      stay = way.stay;
+      connections = way.connections;
+      numbers = way.numbers;
+      news = record { more = way.news.more; grow = way.news.grow; room = way.news.room };
+      reported = way.reported;
+      only = way.only;
+    }
 
 pub returns-in-TooLong-clause-counted : goal.returns-in-TooLong-clause-counted
 returns-in-TooLong-clause-counted c =
     let way = c.make_way_for.ensures.counted in
-    record { each = way.each; stay = way.stay; connections = way.connections; news = record { more = way.news.more; grow = way.news.grow } }
+    record {
+      each = way.each;
+      stay = way.stay;
+      connections = way.connections;
+      numbers = way.numbers;
+      news = record { more = way.news.more; grow = way.news.grow; room = way.news.room };
+      reported = way.reported;
+      only = way.only;
+    }

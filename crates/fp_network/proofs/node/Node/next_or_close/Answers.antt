@@ -4,12 +4,11 @@ use Rattle.std.proofs.Common.{Bool, ◌++◌, inr, refl, subst, ap, ◌∙◌}
 use Rattle.std.specs.Option.{option_map}
 use Rattle.fp_adaptor.specs.Adaptor.{Led}
 use Rattle.fp_network.specs.Changes.{closing}
-use Rattle.fp_network.specs.Counting.{course_of}
 use Rattle.fp_network.specs.Node.{ended_unless, is_over_at, is_over_of}
 use Rattle.fp_network.proofs.Hearing.{closed_event, next_or_end, same_led}
 use Rattle.fp_network.proofs.Leaves.{leaves_more}
 use Rattle.fp_network.proofs.Waits.{stays_more, waits_closed, waits_same_at}
-use Rattle.fp_network.proofs.Tallied.{counts_at, counts_more, counts_one, courses_next}
+use Rattle.fp_network.proofs.Tallied.{counts_at, counts_more, counts_one, courses_next, progress_of}
 use Rattle.fp_network.proofs.node.Node.next_or_close.Goals as goal
 
 pub returns-in-Ok-clause-rest : goal.returns-in-Ok-clause-rest
@@ -60,6 +59,6 @@ returns-in-Err-TooLong-clause-counted c =
     let next = c.next_message.ensures in
     let close = c.close.ensures in
     counts_more c.args.self.now c.next_message.new.self c.close.new.self next.link.count
-    (counts_at c.args.place c.args.self.now c.next_message.new.self (ap course_of c.in-Err-TooLong.ensures.kept) next.others next.tally next.news)
+    (counts_at c.args.place c.args.self.now c.next_message.new.self (ap progress_of c.in-Err-TooLong.ensures.kept) next.others next.tally next.news)
     (counts_one TooLong c.args.place c.next_message.new.self c.close.new.self close.here close.others close.uncounted close.counted close.silent
     close.reported close.connections)

@@ -1,11 +1,10 @@
 use Rattle.std.proofs.Common.{ap, refl, sym, ◌∙◌}
 use Rattle.std.proofs.lemmas.Bool.{false≢true}
 use Rattle.fp_network.specs.Changes.{counting_read}
-use Rattle.fp_network.specs.Counting.{course_of}
 use Rattle.fp_network.proofs.Ending.{closes_courses, closes_one}
 use Rattle.fp_network.proofs.Keeping.{keeps_closed}
 use Rattle.fp_network.proofs.Ticking.{read_out_lives, reading_ends, reading_goes_on}
-use Rattle.fp_network.proofs.Tallied.{counts_at, counts_one, courses_at, courses_map}
+use Rattle.fp_network.proofs.Tallied.{counts_at, counts_one, courses_at, courses_map, progress_of}
 use Rattle.fp_network.proofs.node.Node.read_late.Goals as goal
 
 pub returns-then-is_read_out-clause-here : goal.returns-then-is_read_out-clause-here
@@ -30,13 +29,13 @@ returns-clause-ended c =
     let count = c.count_read.ensures in
     closes_courses _ _ count.adaptor
     (courses_at c.args.place c.args.self.now c.count_read.new.self
-    (ap course_of count.here ∙ courses_map (counting_read c.args.at) (λ own. refl) _) count.others)
+    (ap progress_of count.here ∙ courses_map (counting_read c.args.at) (λ own. refl) _) count.others)
 
 pub returns-clause-counted : goal.returns-clause-counted
 returns-clause-counted c =
     let count = c.count_read.ensures in
     counts_at c.args.place c.args.self.now c.count_read.new.self
-    (ap course_of count.here ∙ courses_map (counting_read c.args.at) (λ own. refl) _) count.others count.tally count.news
+    (ap progress_of count.here ∙ courses_map (counting_read c.args.at) (λ own. refl) _) count.others count.tally count.news
 
 pub returns-clause-tied : goal.returns-clause-tied
 returns-clause-tied c = keeps_closed _ _ (returns-clause-ended c)

@@ -1,10 +1,10 @@
 use Rattle.std.proofs.Common.{[], ap, ◌∙◌}
-use Rattle.fp_network.specs.Counting.{course_of}
+use Rattle.fp_network.proofs.Cutting.{hears_cut}
 use Rattle.fp_network.proofs.Growing.{grows_more, grows_none}
-use Rattle.fp_network.proofs.Hearing.{heard_all, heard_more, same_led}
+use Rattle.fp_network.proofs.Hearing.{HearingOn, heard_all, heard_more, hears_each, same_led}
 use Rattle.fp_network.proofs.Leaves.{keeps_left, keeps_more}
 use Rattle.fp_network.proofs.Waits.{stays_more, waits_same_at}
-use Rattle.fp_network.proofs.Tallied.{counts_at, counts_more, courses_fed}
+use Rattle.fp_network.proofs.Tallied.{counts_at, counts_more, courses_fed, progress_of}
 use Rattle.fp_network.proofs.Keeping.{keeps_hearing}
 use Rattle.fp_network.proofs.node.Node.received.Goals as goal
 
@@ -24,7 +24,7 @@ loop-message-init c =
       grows = rw feed.link.for_link (grows_none _);
       rest = waits_same_at c.args.place c.args.self.now c.feed.new.self feed.here feed.others;
       keeps = keeps_left c.args.self.now c.feed.new.self feed.link;
-      counted = counts_at c.args.place c.args.self.now c.feed.new.self (ap course_of feed.fed ∙ courses_fed _ _) feed.others feed.tally feed.news;
+      counted = counts_at c.args.place c.args.self.now c.feed.new.self (ap progress_of feed.fed ∙ courses_fed _ _) feed.others feed.tally feed.news;
     }
 
 -- a message is dropped in two ways
@@ -66,10 +66,21 @@ loop-message-preserved-in_ok-take c =
           take.counted);
     }
 
-pub returns-in_default-clause-hears : goal.returns-in_default-clause-hears
-returns-in_default-clause-hears c setting history led =
+hears_on : (c : goal.In_default) → HearingOn c.args.place c.args.octets.now c.args.self.now c.next_or_close.new.self
+hears_on c setting history led =
     heard_all c.args.place c.args.octets.now setting history c.args.self.now c.loop-message.self c.next_or_close.new.self
     (c.loop-message.invariant.so setting history led) (rw c.in_default.is at c.in_ok-message.ensures.next)
+
+pub returns-in_default-clause-hears : goal.returns-in_default-clause-hears
+returns-in_default-clause-hears c setting history led =
+    let so = hears_on c setting history led in (
+      so.0,
+      so.1,
+      so.2,
+      so.3,
+      hears_cut setting history c.args.place so.3 so.0 c.next_or_close.new.self so.4,
+      hears_each setting history c.args.place so.3 so.0 c.next_or_close.new.self so.4,
+    )
 
 pub returns-in_default-clause-grows : goal.returns-in_default-clause-grows
 returns-in_default-clause-grows c = rw c.next_or_close.ensures.link.for_link c.loop-message.invariant.grows
@@ -89,4 +100,4 @@ returns-in_default-clause-counted c =
 
 pub returns-in_default-clause-tied : goal.returns-in_default-clause-tied
 returns-in_default-clause-tied c =
-    keeps_hearing c.args.place c.args.octets.now c.args.self.now c.next_or_close.new.self (returns-in_default-clause-hears c)
+    keeps_hearing c.args.place c.args.octets.now c.args.self.now c.next_or_close.new.self (hears_on c)

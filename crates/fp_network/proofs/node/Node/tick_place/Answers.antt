@@ -1,5 +1,6 @@
 use Rattle.std.proofs.Common.{refl, sym, ◌∙◌}
 use Rattle.fp_network.proofs.Ending.{closes_none, closes_one}
+use Rattle.fp_network.proofs.Reporting.{notes_kept, notes_one}
 use Rattle.fp_network.proofs.Ticking.{ticking_none, ticking_some}
 use Rattle.fp_network.proofs.Tallied.{counts_none, counts_one}
 use Rattle.fp_network.proofs.node.Node.tick_place.Goals as goal
@@ -26,3 +27,11 @@ returns-clause-counted c =
     let close = c.close.ensures in
     counts_one _ _ _ _ close.here close.others close.uncounted close.counted close.silent
     close.reported close.connections
+
+pub returns-in_default-clause-reported : goal.returns-in_default-clause-reported
+returns-in_default-clause-reported c = notes_kept _ _
+
+pub returns-clause-reported : goal.returns-clause-reported
+returns-clause-reported c =
+    let close = c.close.ensures in
+    notes_one _ _ _ _ close.here close.silent close.reported

@@ -3,13 +3,12 @@ use Rattle.std.proofs.lemmas.Result.{on_ok_weaker}
 use Rattle.fp_adaptor.specs.declared.adaptor.Adaptor.{Adaptor}
 use Rattle.fp_adaptor.specs.declared.adaptor.Outcome.TheVariants as outcomes
 use Rattle.fp_adaptor.specs.Adaptor.{Led}
-use Rattle.fp_network.specs.Counting.{course_of}
 use Rattle.fp_network.specs.Node.{connection_in}
 use Rattle.fp_network.specs.Receiving.{reader_of}
 use Rattle.fp_network.proofs.Hearing.{reads_sent}
 use Rattle.fp_network.proofs.Growing.{grown_by, on_ok}
 use Rattle.fp_network.proofs.Waits.{sending_adds, stays_same, waits_change}
-use Rattle.fp_network.proofs.Tallied.{counts_at, counts_none, courses_sent}
+use Rattle.fp_network.proofs.Tallied.{counts_at, counts_none, courses_sent, progress_of}
 use Rattle.fp_network.proofs.node.Node.unit_data.Goals as goal
 
 pub returns-in-HandedOn-clause-handed_on : goal.returns-in-HandedOn-clause-handed_on
@@ -64,7 +63,7 @@ pub returns-in-Answered-clause-counted : goal.returns-in-Answered-clause-counted
 returns-in-Answered-clause-counted c =
     let send = c.send.ensures in
     on_ok_weaker c.send.result (λ here.
-    counts_at c.args.place c.args.self.now c.send.new.self (ap course_of here ∙ courses_sent _ (connection_in c.args.self.now c.args.place))
+    counts_at c.args.place c.args.self.now c.send.new.self (ap progress_of here ∙ courses_sent _ (connection_in c.args.self.now c.args.place))
     send.others send.tally send.news) send.here
 
 pub returns-in-Nothing-clause-counted : goal.returns-in-Nothing-clause-counted
