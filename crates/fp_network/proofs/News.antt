@@ -88,10 +88,11 @@ reports_then event some old mid new first so = elim so [
   | inr full ↦ inr (let room = first.room in omega (arith, full, room))
 ]
 
--- the one event of a call
-pub reports_one : (event : NetworkEvent) (old new : Node) (notes : Notes (event ∷ []) old new) → Reports event notes.more old new
-reports_one event old new notes = elim notes.all [
-  | inl is ↦ inl (subst (λ (more : List NetworkEvent). IsAmong event more) (sym is) (inl refl))
+-- an event of a call that adds these
+pub reports_noted : (event : NetworkEvent) (events : List NetworkEvent) (old new : Node) (notes : Notes events old new) → IsAmong event events
+    → Reports event notes.more old new
+reports_noted event events old new notes is = elim notes.all [
+  | inl same ↦ inl (subst (λ (more : List NetworkEvent). IsAmong event more) (sym same) is)
   | inr full ↦ inr full
 ]
 

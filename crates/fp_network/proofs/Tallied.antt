@@ -17,14 +17,14 @@ use Rattle.fp_network.specs.declared.event.NetworkEvent.TheVariants.{Gone}
 use Rattle.fp_network.specs.declared.node.Node.{Node}
 use Rattle.fp_network.specs.declared.tally.Tally.{Tally}
 use Rattle.fp_network.specs.Changes.{closing, is_slow, sending, sending_if}
-use Rattle.fp_network.specs.Counting.{Counts, IsAmong, NewsGrow, Notes, Reports, active_for, active_of, closes_for, counted_below, counted_if, course_at, course_of, is_reason, number_of, reason_of}
+use Rattle.fp_network.specs.Counting.{Counts, IsAmong, NewsGrow, Notes, Reports, ReportsActive, active_for, active_of, closes_for, counted_below, counted_if, course_at, course_of, is_reason, number_of, reason_of}
 use Rattle.fp_network.specs.Course.{closed, closing_of}
 use Rattle.fp_network.specs.Node.{LeavesOthers, connection_at, connection_in, is_over_at, is_over_of}
 use Rattle.fp_network.specs.Receiving.{NextIf, NextIn, feeding}
 use Rattle.fp_network.specs.Stepping.{ArrivesIf, ArrivesIn}
 use Rattle.fp_network.specs.Tally.{closed_once_more, closings_of}
 use Rattle.fp_network.proofs.First.{same_some}
-use Rattle.fp_network.proofs.News.{among_either, among_some, news_noted, news_same, news_then, reports_first, reports_one, reports_then, same_silent}
+use Rattle.fp_network.proofs.News.{among_either, among_some, news_noted, news_same, news_then, reports_first, reports_noted, reports_then, same_silent}
 
 -- the number of a connection and how far it is from its end, if there is one
 abbrev pub progress_of : Option Connection → Option (ℕ × Course)
@@ -317,6 +317,32 @@ counts_active names unit own old new places tally notes =
     active_stays (Gone number why) why names unit own refl
     (among_some (Gone number why) notes.more (active_of names unit own) notes.some among))
 
+-- the event hangs on the number of the connection alone, so that it is reported after others
+active_by : List (List ℕ) → ℕ → Option ℕ → List NetworkEvent
+active_by names unit None = []
+active_by names unit (Some number) = active_for number (slice_get names unit)
+
+active_is : (names : List (List ℕ)) (unit : ℕ) (own : Option Connection) → active_of names unit own ≡ active_by names unit (number_of own)
+unfolding active_by
+active_is names unit None = refl
+active_is names unit (Some own) = refl
+
+pub active_then : (unit place : ℕ) (old mid new : Node) → mid.names.items ≡ old.names.items → Counts old mid
+    → Notes (active_of mid.names.items unit (connection_in mid place)) mid new → ReportsActive unit place old new
+unfolding news_then news_noted
+active_then unit place old mid new names counts notes = record {
+  news = news_then old mid new counts.news (news_noted (active_of mid.names.items unit (connection_in mid place)) mid new notes);
+  reported = λ event is. reports_then event notes.more old mid new counts.news
+      (reports_noted event (active_of mid.names.items unit (connection_in mid place)) mid new notes
+      (subst (λ (events : List NetworkEvent). IsAmong event events) (sym same) is));
+}
+  where
+    same : active_of mid.names.items unit (connection_in mid place) ≡ active_of old.names.items unit (connection_in old place)
+    same =
+        active_is mid.names.items unit (connection_in mid place) ∙ ap (active_by mid.names.items unit) (counts.numbers place)
+        ∙ ap (λ names. active_by names unit (number_of (connection_in old place))) names
+        ∙ sym (active_is old.names.items unit (connection_in old place))
+
 -- the connection in one place is closed
 closed_stays : (why : Closing) (course : Course) → is_some (closing_of course) ≡ true → closed why course ≡ course
 closed_stays why Open over = absurd (false≢true over)
@@ -351,7 +377,7 @@ reports_closing : (why other : Closing) (number named : ℕ) (old new : Node) (n
     → Some number ≡ Some named → Reports (Gone named other) notes.more old new
 reports_closing why other number named old new notes is same =
     subst (λ (event : NetworkEvent). Reports event notes.more old new) (λ i. Gone (same_some number named same i) (closing_or why (is i)))
-    (reports_one (Gone number why) old new notes)
+    (reports_noted (Gone number why) (Gone number why ∷ []) old new notes (inl refl))
 
 pub counts_one : (why : Closing) (place : ℕ) (old new : Node) → connection_in new place ≡ option_map (closing why) (connection_in old place)
     → LeavesOthers place old new → (is_over_at old place ≡ true → new.tally ≡ old.tally)

@@ -110,6 +110,14 @@ abbrev pub active_of : List (List ℕ) → ℕ → Option Connection → List Ne
 active_of names unit None = []
 active_of names unit (Some own) = active_for own.number (slice_get names unit)
 
+-- The connection in a place is reported as active for a unit, if both are there. Events only follow those that weren't
+-- returned.
+pub record ReportsActive (unit place : ℕ) (old new : Node) : Type 0 where
+  pub news : NewsGrow old new
+  pub reported :
+      (event : NetworkEvent) → IsAmong event (active_of old.names.items unit (connection_in old place))
+      → Reports event news.more old new
+
 -- a connection of this number got no place, so that it is over at once
 abbrev pub gone_unless : ℕ → Option ℕ → List NetworkEvent
 gone_unless number None = Gone number TooMany ∷ []

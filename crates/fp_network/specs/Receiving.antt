@@ -17,6 +17,7 @@ use Rattle.fp_network.specs.declared.connection.Connection.{Connection}
 use Rattle.fp_network.specs.declared.event.Closing.TheVariants.{Replaced, TooLong}
 use Rattle.fp_network.specs.declared.node.Node.{Node}
 use Rattle.fp_network.specs.Changes.{sending}
+use Rattle.fp_network.specs.Counting.{ReportsActive}
 use Rattle.fp_network.specs.Course.{closing_of}
 use Rattle.fp_network.specs.Endings.{ClosesOnly}
 use Rattle.fp_network.specs.Node.{Keeps, LeavesLink, LeavesOthers, connection_in, ended_at, ended_unless, for_link, frames_for, is_over_at}
@@ -73,7 +74,7 @@ ComesTo setting history place octets Skipped old new more =
 ComesTo setting history place octets (Active unit) old new more =
     (earlier : Option ℕ) × (came : List Event) × Comes setting history place unit earlier came
     × (more ≡ ended_at old earlier ++ came) × (for_link new ≡ for_link old)
-    × ClosesOnly Replaced earlier old new × SkipsNone old new
+    × ClosesOnly Replaced earlier old new × SkipsNone old new × ReportsActive unit place old new
 ComesTo setting history place octets UnitData old new more =
     (outcome : Outcome) × Receives setting history place octets outcome more
     × (for_link new ≡ for_link old ++ frames_for outcome)

@@ -9,7 +9,7 @@ ghost use Rattle.fp_frames.specs.Frame.{framed};
 ghost use Rattle.fp_network.specs.Frames.{frames_of, framed_if};
 ghost use Rattle.fp_network.specs.Endings.{Activates, KeepsTied};
 ghost use Rattle.fp_network.specs.Changes.{IsLonger};
-ghost use Rattle.fp_network.specs.Counting.{Counts, Notes, active_of};
+ghost use Rattle.fp_network.specs.Counting.{Counts, Notes, ReportsActive, active_of};
 ghost use Rattle.fp_network.specs.Receiving.{FaultIn, Hearing, NextIn, NextOrEnd, Results, SkipsNone, Steps, answering, feeding, reader_of};
 ghost use Rattle.fp_network.specs.Stepping.{ArrivesIn};
 ghost use Rattle.fp_network.specs.Node.{Grows, Keeps, LeavesLink, LeavesOthers, WaitsOn, connection_in, for_link, frames_for, waiting_at};
@@ -100,6 +100,7 @@ impl Node {
             ≡ reader_of (connection_in self.old place) }
         ensures link { LeavesLink self.old self.new }
         ensures counted { Counts self.old self.new }
+        ensures active { ReportsActive unit place self.old self.new }
     {
         self.replace(place, unit);
         self.note_active(place, unit);

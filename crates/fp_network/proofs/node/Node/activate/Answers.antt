@@ -4,7 +4,7 @@ use Rattle.fp_adaptor.specs.Adaptor.{Led}
 use Rattle.fp_network.specs.Node.{connection_in, ended_at}
 use Rattle.fp_network.proofs.Ending.{closes_as}
 use Rattle.fp_network.proofs.Waits.{stays_more, waits_same}
-use Rattle.fp_network.proofs.Tallied.{counts_more, counts_active}
+use Rattle.fp_network.proofs.Tallied.{active_then, counts_more, counts_active}
 use Rattle.fp_network.proofs.node.Node.activate.Goals as goal
 
 pub returns-clause-came : goal.returns-clause-came
@@ -31,3 +31,8 @@ returns-clause-counted c =
     counts_more c.args.self.now c.replace.new.self c.note_active.new.self c.replace.ensures.link.count c.replace.ensures.counted
     (counts_active c.replace.new.self.names.items c.args.unit (connection_in c.replace.new.self c.args.place) c.replace.new.self
     c.note_active.new.self note.places note.tally note.news)
+
+pub returns-clause-active : goal.returns-clause-active
+returns-clause-active c =
+    active_then c.args.unit c.args.place c.args.self.now c.replace.new.self c.note_active.new.self c.replace.ensures.link.names
+    c.replace.ensures.counted c.note_active.ensures.news

@@ -47,7 +47,7 @@ pub returns-in-Active-clause-comes_to : goal.returns-in-Active-clause-comes_to
 returns-in-Active-clause-comes_to c =
     subst (λ (arrival : Arrival). Results c.args.place c.args.octets.now arrival c.args.self.now c.activate.new.self) (sym c.in-Active.is)
     (results_active c.in-Active.unit c.args.place c.args.octets.now c.args.self.now c.activate.new.self c.activate.ensures.link.for_link
-    c.activate.ensures.skipped c.activate.ensures.came)
+    c.activate.ensures.skipped c.activate.ensures.came c.activate.ensures.active)
 
 pub returns-in-UnitData-clause-comes_to : goal.returns-in-UnitData-clause-comes_to
 returns-in-UnitData-clause-comes_to c =
