@@ -2,7 +2,7 @@
 //!
 //! | Case | Result |
 //! |---|---|
-//! | `lines MOST READS READ ..` | the lines that are taken, each followed by `; `, if a line has at most MOST octets and there are at most READS reads; then why there are no more: `end`, or a fault and how often the reader failed. The line FF is refused |
+//! | `lines MOST READS READ ..` | the lines that are taken, each followed by `; `, or by `, ` if the next line was read already, if a line has at most MOST octets and there are at most READS reads; then why there are no more: `end`, or a fault and how often the reader failed. The line FF is refused |
 //! | `write-all PIECE ROOM HEX` | the result of writing these octets, the contents of the writer afterwards, and how often it failed; the writer takes PIECE octets a write, and ROOM in all |
 //!
 //! A READ is the octets that one read gives, `interrupted`, or `fault`. After the last one the input is at its end.
@@ -75,22 +75,27 @@ impl TakesLine for Taken {
 
     ghost refuses = { λ _ _ _ _ _. Unit {0} };
 
-    fn take_line(&mut self, line: &[u8], has_line_feed: bool) -> Result<(), anyhow::Error> {
+    fn take_line(
+        &mut self,
+        line: &[u8],
+        has_line_feed: bool,
+        is_followed: bool,
+    ) -> Result<(), anyhow::Error> {
         if line == b"\xFF".as_slice() {
             anyhow::bail!("refused");
         }
         push_octets(&mut self.text, line)?;
-        self.text.push_str(after_line(has_line_feed))?;
+        self.text.push_str(after_line(has_line_feed, is_followed))?;
         Ok(())
     }
 }
 
 /// The text after a line.
-fn after_line(has_line_feed: bool) -> &'static str {
-    if has_line_feed {
-        "; "
-    } else {
-        " with no line feed; "
+fn after_line(has_line_feed: bool, is_followed: bool) -> &'static str {
+    match (has_line_feed, is_followed) {
+        (true, true) => ", ",
+        (true, false) => "; ",
+        (false, _) => " with no line feed; ",
     }
 }
 

@@ -89,7 +89,12 @@ impl TakesLine for Replaying<'_> {
     ghost refuses = { refuses };
 
     /// Takes the head, or a step, which is replayed. Each line of a log ends with its line feed.
-    fn take_line(&mut self, line: &[u8], has_line_feed: bool) -> Result<(), Refusal> {
+    fn take_line(
+        &mut self,
+        line: &[u8],
+        has_line_feed: bool,
+        _is_followed: bool,
+    ) -> Result<(), Refusal> {
         if !has_line_feed {
             return Err(Refusal::BadLine);
         }

@@ -189,6 +189,19 @@ begins : {S : Type 0} (takes : S → Bool → List ℕ → S → Type 0) (most m
 begins takes most made had left before after old new taken begun r =
     record { lines = r.lines; begun = begun; reaches = r.reaches; begun_is = r.begun_is }
 
+-- there was no memory before the first read
+pub no_room : {S F A : Type 0} (takes : S → Bool → List ℕ → S → Type 0) (refuses : S → Bool → List ℕ → F → S → Type 0) (most reads : ℕ) (had : Option (List ℕ)) (before : Option (List (List ℕ))) (old : S)
+    → Follows takes refuses most reads had had before before old old (failed {A = A} faults.Memory)
+no_room takes refuses most reads had before old = record {
+  pieces = [];
+  sizes = All-nil (IsPiece 4096);
+  last = [];
+  read = told_none before;
+  consumed = Consumes-nil had;
+  stop = (refl, omega arith);
+  lines = record { lines = []; rest = []; reaches = reaches_none takes most old [] };
+}
+
 -- one more read failed
 pub read_failed : {S F A : Type 0} (takes : S → Bool → List ℕ → S → Type 0) (refuses : S → Bool → List ℕ → F → S → Type 0) (most reads made : ℕ) (had left next : Option (List ℕ)) (before after later : Option (List (List ℕ))) (old new : S) (taken : ℕ) (begun : List ℕ)
     → Reading takes most made had left before after old new taken begun → Consumes left next [] → Grows after later [] → made < reads

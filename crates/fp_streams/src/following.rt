@@ -1,4 +1,4 @@
-//! The lines of a reader, each taken before the next one is read.
+//! The lines of a reader, each taken before the next read.
 
 ghost use Rattle.std.specs.Prelude.{◌≡◌, ◌<◌, ◌≤◌, ◌+◌, ◌^◌, ◌++◌, Some, MatchResult, length, slice_get, take};
 ghost use Rattle.fp_streams.specs.Ends.{CountsReads};
@@ -31,9 +31,13 @@ pub fn follow_lines<R: LinkRead, T: TakesLine>(
     ensures failure { CountsReads cause_of result (R.failures reader.old) (R.failures reader.new) }
 {
     let mut room = [0; MOST_READ];
+    // A line that one read holds finds its room here, so that memory runs out only before the first line of a read.
+    let Ok(begun) = Vec::with_capacity(alloc, MOST_READ) else {
+        return Err(LinesFault::Memory);
+    };
     let mut following = Following {
         most_octets,
-        begun: Vec::new(alloc),
+        begun,
         taken: 0,
     };
     for _read in 0..most_reads {
@@ -74,10 +78,9 @@ impl Following {
             (FeedStops T.takes T.refuses self.old.most_octets taker.old taker.new
             (self.old.begun.items ++ octets.now) self.old.taken self.new.taken) }
     {
-        let mut at = 0;
+        let mut rest = octets;
+        let mut count = line_length(rest);
         loop {
-            let rest = &octets[at..];
-            let count = line_length(rest);
             if count > self.most_octets - self.begun.len() {
                 return Err(Stop::TooLong);
             }
@@ -87,12 +90,15 @@ impl Following {
             if count == rest.len() {
                 return Ok(());
             }
-            if let Err(fault) = taker.take_line(self.begun.as_slice(), true) {
+            rest = &rest[count + 1..];
+            let next = line_length(rest);
+            let is_followed = next < rest.len();
+            if let Err(fault) = taker.take_line(self.begun.as_slice(), true, is_followed) {
                 return Err(Stop::Refused(fault));
             }
             self.begun.clear();
             self.taken += 1;
-            at += count + 1;
+            count = next;
         }
     }
 
@@ -104,7 +110,7 @@ impl Following {
         if self.begun.is_empty() {
             return Ok(());
         }
-        taker.take_line(self.begun.as_slice(), false)
+        taker.take_line(self.begun.as_slice(), false, false)
     }
 }
 

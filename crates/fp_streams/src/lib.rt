@@ -1,7 +1,7 @@
 //! Streams of octets: every part of the program that reads or writes octets is built on this layer.
 //!
 //! This layer gets readers and writers, a limit on the length of a line, and a limit on the number of reads. It asks
-//! the system only for the memory of a line.
+//! the system only for the memory of a line, 4,096 octets or more.
 //!
 //! * [`LinkRead`] and [`LinkWrite`] are devices that count their failures, so that a reported failure can be shown to
 //!   have happened. [`Counted`] makes them of a [`Read`](std::io::Read) and a [`Write`](std::io::Write).
