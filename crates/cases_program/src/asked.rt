@@ -12,8 +12,8 @@ pub(crate) enum Kind<'a> {
     Torn,
     /// One run, whose output is compared with the file of this name.
     Beside(&'a str),
-    /// One run, which notes how many lines were flushed before each line was read.
-    Paced,
+    /// One run, whose input gives so many octets a read. It notes how many lines were flushed before each read.
+    Paced(usize),
     /// Several runs. In each one this device fails one octet later.
     Failing(Device),
     /// Several runs, with the first octets of the message: from the first of these numbers of octets to the second.
@@ -81,7 +81,8 @@ fn run_of<'a>(input: &'a str, limits: Limits) -> anyhow::Result<Asked<'a>> {
         "full" => limited(rest, limits, true),
         "unflushed" => limited(rest, limits, false),
         "as" => beside(rest, limits),
-        "paced" => run_as(Kind::Paced, limits, rest),
+        "paced" => run_as(Kind::Paced(1), limits, rest),
+        "pieces" => pieces(rest, limits),
         "failing" => failing(rest, limits),
         "fronts" => fronts(rest, limits),
         _ => bail!("no such case"),
@@ -111,6 +112,12 @@ fn limited<'a>(text: &'a str, limits: Limits, is_flushed: bool) -> anyhow::Resul
 fn beside<'a>(text: &'a str, limits: Limits) -> anyhow::Result<Asked<'a>> {
     let (file, rest) = first_word(text);
     run_as(Kind::Beside(file), limits, rest)
+}
+
+/// A run whose input gives as many octets a read as the number at the front of `text`.
+fn pieces<'a>(text: &'a str, limits: Limits) -> anyhow::Result<Asked<'a>> {
+    let (size, rest) = first_word(text);
+    run_as(Kind::Paced(size.parse()?), limits, rest)
 }
 
 /// Runs with a device whose calls fail.

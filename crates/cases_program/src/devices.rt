@@ -1,4 +1,4 @@
-//! Readers and writers that replace a run's devices. All except `Shown` take or give one octet at a time.
+//! Readers and writers that replace a run's devices. All except `Paced` and `Shown` take or give one octet at a time.
 
 use std::alloc::Global;
 use std::cell::Cell;
@@ -65,10 +65,12 @@ impl Read for Failing<'_> {
     }
 }
 
-/// A reader that notes, before each line and at the end, how many lines were written and flushed.
+/// A reader that gives at most `size` octets a read, and notes before each read how many lines were written and flushed;
+/// where it gives one octet a read, before each line and at the end alone.
 #[derive(Drop)]
 pub(crate) struct Paced<'a> {
     octets: &'a [u8],
+    size: usize,
     is_at_line: bool,
     flushed: &'a Cell<usize>,
     notes: &'a mut Vec<usize>,
@@ -78,11 +80,13 @@ impl Paced<'_> {
     /// A reader of these octets, which notes the number in a cell.
     pub(crate) fn new<'a>(
         octets: &'a [u8],
+        size: usize,
         flushed: &'a Cell<usize>,
         notes: &'a mut Vec<usize>,
     ) -> Paced<'a> {
         Paced {
             octets,
+            size,
             is_at_line: true,
             flushed,
             notes,
@@ -92,18 +96,15 @@ impl Paced<'_> {
 
 impl Read for Paced<'_> {
     fn read(&mut self, buf: &mut [u8]) -> io::Result<usize> {
-        if self.is_at_line || self.octets.is_empty() {
+        if self.size > 1 || self.is_at_line || self.octets.is_empty() {
             self.notes.push(self.flushed.get())?;
         }
-        match (self.octets, buf) {
-            ([first, rest @ ..], [place, ..]) => {
-                self.is_at_line = *first == b'\n';
-                *place = *first;
-                self.octets = rest;
-                Ok(1)
-            }
-            _ => Ok(0),
-        }
+        let count = self.size.min(self.octets.len()).min(buf.len());
+        let (front, rest) = self.octets.split_at(count);
+        buf[..count].copy_from_slice(front);
+        self.is_at_line = front.last() == Some(&b'\n');
+        self.octets = rest;
+        Ok(count)
     }
 }
 

@@ -9,7 +9,8 @@
 //! | `unflushed ROOM scp ..` | the same, and it can't be flushed |
 //! | `as FILE scp ..` | the run; if its output or its errors equal a file of data/ octet by octet, the name of that file instead |
 //! | `mute CASE` | the same as CASE, one of the others, if standard error takes nothing |
-//! | `paced scp ..` | the run, and how many lines were written and flushed before each line, and before the end, was read |
+//! | `paced scp ..` | the run, and how many lines were written and flushed before each line, and before the end, was read, and at the run's end |
+//! | `pieces SIZE scp ..` | the run if SIZE octets are read at a time, and how many lines were written and flushed before each read, and at the run's end |
 //! | `failing reads scp ..` | runs whose first, second, .. read of an octet fails: how many end early, and the first that doesn't |
 //! | `failing writes scp ..` | the same with the writes of an octet each |
 //! | `fronts FIRST LAST scp ..` | runs with the first FIRST, .., LAST octets of the message: how many have the same outcome as the first of them, before one that doesn't, and that outcome |

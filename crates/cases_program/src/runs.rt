@@ -39,7 +39,7 @@ fn write_answer<H: Files + AllocGlobal>(
         Kind::Once => outcome(rt, line, input, asked.limits).write(out),
         Kind::Torn => outcome(rt, line, Torn::new(input), asked.limits).write(out),
         Kind::Beside(file) => write_beside(rt, line, asked.limits, file, out),
-        Kind::Paced => write_paced(rt, line, out),
+        Kind::Paced(size) => write_paced(rt, line, size, out),
         Kind::Failing(device) => write_failing(rt, line, device, out),
         Kind::Fronts(first, last) => write_fronts(rt, line, first, last, out),
     }
@@ -75,15 +75,16 @@ fn write_beside<H: Files + AllocGlobal>(
     outcome.write_beside(file, octets.as_slice(), out)
 }
 
-/// The outcome of a run whose lines are read one at a time. Notes how many lines were flushed before each of them.
+/// The outcome of a run whose input gives `size` octets a read. Notes how many lines were flushed before each read.
 fn paced_outcome<H: Files + AllocGlobal>(
     rt: &H,
     line: &CommandLine,
+    size: usize,
+    flushed: &Cell<usize>,
     notes: &mut Vec<usize>,
 ) -> Outcome {
-    let flushed = Cell::new(0);
-    let input = Paced::new(line.input.as_slice(), &flushed, notes);
-    let mut output = Shown::new(rt.alloc(), &flushed);
+    let input = Paced::new(line.input.as_slice(), size, flushed, notes);
+    let mut output = Shown::new(rt.alloc(), flushed);
     let mut errors = Sink::new(rt.alloc(), usize::MAX, true);
     let status = program(rt, line.words.as_slice(), input, &mut output, &mut errors);
     Outcome {
@@ -93,19 +94,22 @@ fn paced_outcome<H: Files + AllocGlobal>(
     }
 }
 
-/// Adds the outcome of a run whose lines are read one at a time, and how many lines were flushed before each of them.
+/// Adds the outcome of a run whose input gives `size` octets a read, and how many lines were flushed before each read
+/// and at its end.
 fn write_paced<H: Files + AllocGlobal>(
     rt: &H,
     line: &CommandLine,
+    size: usize,
     out: &mut String,
 ) -> anyhow::Result<()> {
+    let flushed = Cell::new(0);
     let mut notes = Vec::new(rt.alloc());
-    paced_outcome(rt, line, &mut notes).write(out)?;
+    paced_outcome(rt, line, size, &flushed, &mut notes).write(out)?;
     out.push(',')?;
     for count in &notes {
         write!(out, " {count}")?;
     }
-    Ok(())
+    Ok(write!(out, " {}", flushed.get())?)
 }
 
 impl Device {

@@ -26,7 +26,7 @@ use Rattle.fp_row.specs.Calls.{ended_by}
 use Rattle.fp_row.specs.Row.{has_turn_out, is_admitted, is_closed, is_ready, waiting_of}
 use Rattle.fp_service.specs.Dialogue.{fresh, is_over}
 use Rattle.fp_tids.specs.Identifiers.{first_of, identifier, serial_of}
-use Rattle.fp_ask.specs.Solo.{Outcome, Dialogue, LinkState, Served, aborts, continued, ended, found, Job, jobs_for, left, left_by, newborn, opened, outcome, serve_all, without}
+use Rattle.fp_ask.specs.Solo.{Outcome, LinkState, Served, aborts, continued, ended, found, Job, jobs_for, left, left_by, newborn, opened, outcome, serve_all, without}
 use Rattle.fp_ask.specs.Tied.{GoesOn, Matches, Rest, Rows, Same, dialogue_of, is_out, live, times}
 use Rattle.fp_ask.specs.proof_only.Serving.{Came, Concerned, Concerns, Fit, IsServed, KeepsEnd, KeepsDialogues, Midway, SameCounts, all_free, frames_in, is_leaving, jobs_of, leaving, senders, waiting_at}
 use Rattle.fp_ask.proofs.OneSent.{no_jobs}

@@ -1,8 +1,8 @@
 -- How far the lines of an input were answered, from what was taken of them.
-use Rattle.std.proofs.Common.{◌≡◌, ⊎_elim, ℕ, ◌<◌, Bool, true, false, List, [], ◌∷◌, ◌++◌, length, Option, Some, None, Result, Ok, Err, refl, sym, ◌∙◌, ap, subst, arith, append_assoc, append-nil}
+use Rattle.std.proofs.Common.{◌≡◌, ◌⊎◌, ⊎_elim, ℕ, ◌<◌, Bool, true, false, List, [], ◌∷◌, ◌++◌, length, Option, Some, None, Result, Ok, Err, refl, sym, ◌∙◌, ap, subst, arith, append_assoc, append-nil}
 use Rattle.std.specs.Prelude.{IfErr, IfSome, OnOk}
-use Rattle.std.specs.Io.KnownBytes.{Appends, Consumes}
-use Rattle.std.proofs.KnownBytes.{Appends-nil, Appends-trans, Consumes-whole}
+use Rattle.std.specs.Io.KnownBytes.{Appends, Consumes, Keeps}
+use Rattle.std.proofs.KnownBytes.{Appends-kept, Appends-nil, Appends-trans, Consumes-whole, Keeps-refl}
 use Rattle.std.proofs.lemmas.List.Elements.{All-weaker}
 use Rattle.fp_records.specs.Table.{Contents}
 use Rattle.fp_streams.specs.Ends.{CountsWrites, WriterSays}
@@ -165,19 +165,19 @@ module _ {S : Type 0} (p : Parting) (seen : S → Taker) (start : State) (old ne
       }
 
   -- all of a text is a prefix of it
-  whole : {first : List (List ℕ)} {then : Taker} → Good start (seen old) first (Appends (seen old).held then.held) then → (seen new).held ≡ then.held
+  whole : {first : List (List ℕ)} {then : Taker} → Good start (seen old) first (Appends (seen old).held then.held) then → Keeps then.held (seen new).held
       → Good start (seen old) first (AppendsFront (seen old).held (seen new).held) then
-  whole g same = record {
+  whole {then = then} g same = record {
     written = g.written;
     solo = g.solo;
-    wrote = record { front = g.written.text; rest = []; wrote = rw same g.wrote; whole = append-nil g.written.text };
+    wrote = record { front = g.written.text; rest = []; wrote = Appends-kept (seen old).held then.held (seen new).held g.written.text g.wrote same; whole = append-nil g.written.text };
     at = g.at;
   }
 
   -- this line is bad
   bad_line : {first : List (List ℕ)} {then : Taker} (number : ℕ) (line : List ℕ) → follow.IsNext number first → (g : Good start (seen old) first (Appends (seen old).held then.held) then)
-      → (seen new).held ≡ then.held → IsBad g.written.state (line_in line) → Among first line (octets ++ rest) → Why (AskFault.BadLine number)
-  bad_line {first} number line is g same bad among = record {
+      → Keeps then.held (seen new).held → IsBad g.written.state (line_in line) → Among first line (octets ++ rest) → Why (AskFault.BadLine number)
+  bad_line {first} {then} number line is g same bad among = record {
     before = first;
     line = line;
     behind = among.0;
@@ -186,7 +186,7 @@ module _ {S : Type 0} (p : Parting) (seen : S → Taker) (start : State) (old ne
     written = g.written;
     solo = g.solo;
     bad = bad;
-    wrote = rw same g.wrote;
+    wrote = Appends-kept (seen old).held then.held (seen new).held g.written.text g.wrote same;
   }
 
   -- the reading came to a halt
@@ -216,24 +216,29 @@ module _ {S : Type 0} (p : Parting) (seen : S → Taker) (start : State) (old ne
         whole = append_assoc text f.front f.rest ∙ ap (λ l. text ++ l) f.whole;
       }))
 
+  -- the same, or nothing was written for it
+  broke_off : {lines : List (List ℕ)} {refusal : Refusal} (d : follow.Declines (takes_of seen) (refuses_of seen) most_line old new octets lines refusal) → (d.has_line_feed ≡ false → rest ≡ [])
+      → Writes (seen d.before_line) d.line (seen new) (AppendsFront (seen d.before_line).held (seen new).held) ⊎ Keeps (seen d.before_line).held (seen new).held → Why AskFault.Memory
+  broke_off d end why = ⊎_elim
+      (λ writes. cut_short d end writes)
+      (λ same. broke (λ more none. let n = declined_line p more d (λ h. none (end h)) in (d.line ∷ n.0, n.1)) (whole (reached seen at d.reaches).good same))
+      why
+
   -- each fault, with what is left of the input
   stopped_by : (fault : LinesFault Refusal) → follow.Stops (takes_of seen) (refuses_of seen) most_line (Some rest) old new octets fault → Why (fault_of fault)
   stopped_by (LinesFault.TooLong number) (taken, is, g) =
       let long = first_long (lines_of (g.begun ++ (g.rest ++ rest))) (p.long most_line g.begun (g.rest ++ rest) g.one_line g.long) in
       let good = (reached seen at g.reaches).good in
-      bad_line number long.0 is good refl (long_is_bad good.written.state long.0 long.3)
+      bad_line number long.0 is good (Keeps-refl (seen new).held) (long_is_bad good.written.state long.0 long.3)
       (long.1, lines_then p rest g.reaches ∙ ap (λ l. taken ++ l) (ap lines_of (append_assoc g.begun g.rest rest) ∙ long.2))
   stopped_by (LinesFault.Refused number Refusal.BadLine) (taken, is, (d, end)) =
       let good = (reached seen at d.reaches).good in
       bad_line number d.line is good d.refused.why.1 (d.refused.why.0 good.written.state good.at) (declined_line p rest d end)
-  stopped_by (LinesFault.Refused number Refusal.WriteFault) (taken, is, (d, end)) = cut_short d end d.refused.why
-  stopped_by (LinesFault.Refused number Refusal.Memory) (taken, is, (d, end)) = ⊎_elim
-      (λ writes. cut_short d end writes)
-      (λ same. broke (λ more none. let n = declined_line p more d (λ h. none (end h)) in (d.line ∷ n.0, n.1)) (whole (reached seen at d.reaches).good same))
-      d.refused.why
+  stopped_by (LinesFault.Refused number Refusal.WriteFault) (taken, is, (d, end)) = broke_off d end d.refused.why
+  stopped_by (LinesFault.Refused number Refusal.Memory) (taken, is, (d, end)) = broke_off d end d.refused.why
   stopped_by LinesFault.ReadFault b = halted b
   stopped_by LinesFault.TurnLimit b = halted b
-  stopped_by LinesFault.Memory b = broke (λ more _. (lines_of (b.rest ++ more), lines_then p more b.reaches)) (whole (reached seen at b.reaches).good refl)
+  stopped_by LinesFault.Memory b = broke (λ more _. (lines_of (b.rest ++ more), lines_then p more b.reaches)) (whole (reached seen at b.reaches).good (Keeps-refl (seen new).held))
 
 -- why no more lines were answered
 stopped : {S : Type 0} (p : Parting) (seen : S → Taker) (start : State) (had left : Option (List ℕ)) (old new : S) (octets : List ℕ) (fault : LinesFault Refusal)

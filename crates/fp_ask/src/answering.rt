@@ -1,6 +1,6 @@
 //! The lines of an input, each answered before the next one is taken.
 
-ghost use Rattle.std.specs.Prelude.{◌≡◌, IfErr, IfSome, OnOk};
+ghost use Rattle.std.specs.Prelude.{◌≡◌, IfErr, IfSome, MatchResult, OnOk};
 ghost use Rattle.std.specs.Io.KnownBytes.{IsAtEnd};
 ghost use Rattle.fp_ask.specs.proof_only.Answering.{IsAt, RefusesOne, TakesOne, seen};
 ghost use Rattle.fp_ask.specs.Asked.{AnswersAll, Stops, cause_of};
@@ -12,7 +12,7 @@ use crate::AskFault;
 use crate::answerer::Answerer;
 use crate::line::MOST;
 use crate::output::write_frames;
-use crate::refusal::{Refusal, asked};
+use crate::refusal::{Refusal, asked, is_write_fault};
 use fp_apdu::Name;
 use fp_digits::Moment;
 use fp_records::Table;
@@ -37,8 +37,33 @@ impl<W: LinkWrite> TakesLine for Answering<'_, W> {
     ghost refuses = { λ old has_line_feed line refusal new.
         RefusesOne (seen W.contents W.failures old) line refusal (seen W.contents W.failures new) };
 
-    /// Writes the frames that are sent for a line, and flushes them.
-    fn take_line(&mut self, line: &[u8], _has_line_feed: bool) -> Result<(), Refusal> {
+    /// Writes the frames that are sent for a line. They are flushed if no line that was read already follows, or if the
+    /// line is refused. A line that is too long follows none: one within a read is shorter than [`MOST`].
+    fn take_line(
+        &mut self,
+        line: &[u8],
+        _has_line_feed: bool,
+        is_followed: bool,
+    ) -> Result<(), Refusal> {
+        let answered = self.answer(line);
+        if is_write_fault(&answered) || (is_followed && answered.is_ok()) {
+            return answered;
+        }
+        match self.writer.flush() {
+            Ok(()) => answered,
+            Err(_) => Err(Refusal::WriteFault),
+        }
+    }
+}
+
+impl<W: LinkWrite> Answering<'_, W> {
+    /// Writes the frames that are sent for a line.
+    fn answer(&mut self, line: &[u8]) -> Result<(), Refusal>
+        ensures { MatchResult result
+            (λ _. TakesOne (seen W.contents W.failures self.old) line.now (seen W.contents W.failures self.new))
+            (λ refusal. RefusesOne (seen W.contents W.failures self.old) line.now refusal
+            (seen W.contents W.failures self.new)) }
+    {
         let taken = self
             .answerer
             .take_line(self.alloc, self.table, self.contexts, line)?;
@@ -47,9 +72,7 @@ impl<W: LinkWrite> TakesLine for Answering<'_, W> {
         };
         write_frames(self.alloc, frames.as_slice(), self.writer)
     }
-}
 
-impl<W: LinkWrite> Answering<'_, W> {
     /// Answers each line of an unread input, on a link without messages before this moment, in a run with this tag.
     pub(crate) fn answer_lines<R: LinkRead>(
         &mut self,

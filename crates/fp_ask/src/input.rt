@@ -26,8 +26,8 @@ use std::alloc::Global;
 /// to 4,096 octets each.
 ///
 /// The first fault ends the run. If a line is bad, the reader failed or the limit on reads was reached, the lines
-/// before were answered; if memory ran out or the writer failed, a prefix of the answers was written. The answers to a
-/// line are written and flushed before the next line is read; cases show this, no clause says it.
+/// before were answered; if memory ran out or the writer failed, a prefix of the answers was written. Answers are
+/// flushed before the next read and when the run ends; cases show this, no clause says it.
 ///
 /// The run has no tag: the identifier of a dialogue is its serial. [`ask_with_tag`] has one.
 pub fn ask<R: LinkRead, W: LinkWrite>(

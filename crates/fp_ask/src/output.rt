@@ -21,7 +21,7 @@ fn line_text(alloc: Global, frame: &SentFrame) -> Result<String, AllocError>
     Ok(text)
 }
 
-/// Writes the lines of frames, and flushes the output.
+/// Writes the lines of frames.
 pub(crate) fn write_frames<W: LinkWrite>(
     alloc: Global,
     frames: &[SentFrame],
@@ -38,9 +38,6 @@ pub(crate) fn write_frames<W: LinkWrite>(
         if write_all(writer, text.as_bytes()).is_err() {
             return Err(Refusal::WriteFault);
         }
-    }
-    if writer.flush().is_err() {
-        return Err(Refusal::WriteFault);
     }
     Ok(())
 }

@@ -1,14 +1,14 @@
-//! Why a line isn't answered.
+//! Why no further line is answered.
 
 ghost use Rattle.std.specs.Prelude.{◌≡◌};
-ghost use Rattle.fp_ask.specs.proof_only.Answering.{asked_of};
+ghost use Rattle.fp_ask.specs.proof_only.Answering.{asked_of, is_write_fault};
 ghost use Rattle.fp_ask.specs.declared.refusal.Refusal.TheVariants.{Memory};
 
 use crate::AskFault;
 use fp_streams::LinesFault;
 use std::alloc::AllocError;
 
-/// Why a line isn't answered.
+/// Why no further line is answered.
 #[derive(Clone, Copy, Debug)]
 pub(crate) enum Refusal {
     /// A line that is no message and no wait, or waits past the last moment.
@@ -25,6 +25,13 @@ impl From<AllocError> for Refusal {
     fn from(_error: AllocError) -> Refusal {
         Refusal::Memory
     }
+}
+
+/// Whether this is the refusal of a line whose answers couldn't be written.
+pub(crate) fn is_write_fault(answered: &Result<(), Refusal>) -> bool
+    ensures { result ≡ is_write_fault answered.now }
+{
+    matches!(answered, Err(Refusal::WriteFault))
 }
 
 /// The result of `ask`, from the result of `follow_lines`.

@@ -179,7 +179,7 @@ const ASK_EXAMPLE: &str = "Example:
   scp ask examples/freephone.csv 2024-05-06T12:00:00Z < examples/calls.txt
 
 Each line of standard input is a TCAP message in hexadecimal digits, or +N: N milliseconds go by.
-Each message that is sent is a line of standard output, written before the next line is read.";
+Each message that is sent is a line of standard output, written before more input is read.";
 
 const REPLAY_EXAMPLE: &str = "Example:
   scp replay examples/freephone.csv examples/calls.log

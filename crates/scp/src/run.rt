@@ -25,7 +25,7 @@ use fp_replay::{ReplayFault, replay};
 use fp_serve::ServeFault;
 use fp_streams::Counted;
 use std::alloc::{AllocError, Global};
-use std::io::{ErrorKind, Read, Write};
+use std::io::{BufWriter, ErrorKind, Read, Write};
 use std::rt::Files;
 use std::{fs, io};
 
@@ -177,6 +177,9 @@ where
         return Err(RunFault::NoContexts);
     };
     let table = table_in(rt, records)?;
+    let Ok(output) = BufWriter::new(rt.alloc(), output) else {
+        return Err(RunFault::Ask(AskFault::Memory));
+    };
     let mut reader = Counted::new(input);
     let mut writer = Counted::new(output);
     answer_lines(

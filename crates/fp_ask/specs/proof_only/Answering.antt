@@ -1,6 +1,6 @@
 -- What one line makes of a link and its moment, and of what is written.
-use Rattle.std.specs.Prelude.{◌≡◌, ◌≢◌, ◌⊎◌, ℕ, List, Option, Some, None, Result, Ok, Err}
-use Rattle.std.specs.Io.KnownBytes.{Appends}
+use Rattle.std.specs.Prelude.{◌≡◌, ◌≢◌, ◌⊎◌, ℕ, Bool, true, false, List, Option, Some, None, Result, Ok, Err}
+use Rattle.std.specs.Io.KnownBytes.{Appends, Keeps}
 use Rattle.fp_records.specs.Table.{Contents}
 use Rattle.fp_streams.specs.Write.{AppendsFront}
 use Rattle.fp_streams.specs.declared.fault.LinesFault.{LinesFault}
@@ -77,11 +77,11 @@ pub record TakesOne (old : Taker) (line : List ℕ) (new : Taker) : Type 0 where
   pub answers : Writes old line new (Appends old.held new.held)
   pub fine : new.failures ≡ old.failures
 
--- the line is bad; or it is good, and a prefix of what is written for it was written; or memory ran out before
+-- A bad line: nothing was written. Else the line is good, and a prefix of what is written for it was written; or nothing
+-- was written.
 abbrev pub Refuses : Taker → List ℕ → Refusal → Taker → Type 0
-Refuses old line BadLine new = ((state : State) → IsAt state old.answerer → IsBad state (line_in line)) × (new.held ≡ old.held)
-Refuses old line WriteFault new = Writes old line new (AppendsFront old.held new.held)
-Refuses old line Memory new = Writes old line new (AppendsFront old.held new.held) ⊎ (new.held ≡ old.held)
+Refuses old line BadLine new = ((state : State) → IsAt state old.answerer → IsBad state (line_in line)) × Keeps old.held new.held
+Refuses old line _ new = Writes old line new (AppendsFront old.held new.held) ⊎ Keeps old.held new.held
 
 -- the failures of the writer: it failed exactly if that is why
 abbrev pub WriterFailed : Refusal → ℕ → ℕ → Type 0
@@ -94,6 +94,11 @@ pub record RefusesOne (old : Taker) (line : List ℕ) (refusal : Refusal) (new :
   pub writer : new.writer ≡ old.writer
   pub why : Refuses old line refusal new
   pub failures : WriterFailed refusal old.failures new.failures
+
+-- the line was refused since the writer failed
+abbrev pub is_write_fault : {A : Type 0} → Result A Refusal → Bool
+is_write_fault (Err WriteFault) = true
+is_write_fault _ = false
 
 -- the result of `ask`, from that of `follow_lines`
 abbrev pub fault_of : LinesFault Refusal → AskFault

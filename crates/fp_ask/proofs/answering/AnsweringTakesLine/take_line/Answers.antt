@@ -1,13 +1,23 @@
-use Rattle.std.proofs.Common.{refl}
-use Rattle.fp_ask.proofs.Written.{line_written}
+use Rattle.std.proofs.Common.{refl, sym, ◌∙◌}
+use Rattle.fp_ask.proofs.Written.{handed_on, not_handed_on}
 use Rattle.fp_ask.proofs.answering.AnsweringTakesLine.take_line.Goals as goal
 
-pub returns-in_default : goal.returns-in_default
-returns-in_default g c = record { writer = refl; why = (rw c.in_default.is at c.in_ok-taken.ensures, refl); failures = refl }
+pub returns-in-Ok : goal.returns-in-Ok
+returns-in-Ok g c =
+    handed_on _ _ _ c.args.line.now _ (record {
+      contents = refl;
+      contexts = refl;
+      answerer = refl;
+      writer = refl;
+      held = c.in-Ok.ensures.octets;
+    }) c.in-Ok.ensures.failure c.answer-answered.ensures
 
-pub returns : goal.returns
-returns g c =
-    let sent = c.as_slice.ensures.value in
-    line_written _ _ _ _ c.write_frames.result refl refl refl (rw c.in-Some.is at c.in_ok-taken.ensures)
-    (rw sent at c.write_frames.ensures.written) (rw sent at c.write_frames.ensures.front)
-    c.write_frames.ensures.good c.write_frames.ensures.failure
+pub returns-in-Err : goal.returns-in-Err
+returns-in-Err g c =
+    not_handed_on _ _ _ c.args.line.now _ (sym c.is_write_fault.ensures ∙ c.if-is_write_fault.false) (record {
+      contents = refl;
+      contexts = refl;
+      answerer = refl;
+      writer = refl;
+      held = c.in-Err.ensures.octets;
+    }) c.in-Err.ensures.failure c.answer-answered.ensures
