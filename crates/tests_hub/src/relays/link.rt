@@ -2,7 +2,7 @@
 
 ghost use Rattle.fp_hub.specs.Shares.{AreBlanks, Whole};
 
-use super::plan::{Load, Marks, Plan, Sending};
+use super::plan::{Load, Marks, Plan};
 use super::posting::post_until_sent;
 use super::senders::{Sent, send_awaited, send_picked};
 use fp_book::{Line, Log, Totals};
@@ -58,9 +58,12 @@ fn post_and_send<
     };
     let (mut sent, (are_opened, rest)) = thread::join(
         rt,
-        move || match plan.sending {
-            Sending::Picks => send_picked(rt, alloc, hub, own, marks, plan.parcel_count()),
-            Sending::Awaits => send_awaited(rt, alloc, hub, own, marks),
+        move || {
+            if plan.is_awaited {
+                send_awaited(rt, alloc, hub, own, marks)
+            } else {
+                send_picked(rt, alloc, hub, own, marks, plan.parcel_count())
+            }
         },
         move || post_until_sent(rt, hub, seat, gate, load),
     );

@@ -6,21 +6,14 @@ use fp_records::Table;
 use std::alloc::Global;
 use std::sync::atomic::{AtomicBool, AtomicU32};
 
-/// How the sender gets its parcels.
-#[derive(Clone, Copy)]
-pub(crate) enum Sending {
-    /// By picking them. If there is none, it looks again a millisecond later.
-    Picks,
-    /// By waiting for them until the link is down.
-    Awaits,
-}
-
 /// The messages of a link, and the ways of its threads.
 #[derive(Clone, Copy)]
 pub(crate) struct Plan {
     pub(crate) link: u8,
     pub(crate) workers: u8,
-    pub(crate) sending: Sending,
+    // Whether the sender waits for its parcels until the link is down, in place of picking them. If it picks and there
+    // is none, it looks again a millisecond later.
+    pub(crate) is_awaited: bool,
     // Whether one hint follows all messages, in place of one after each.
     pub(crate) is_hinted_once: bool,
     // Whether all messages are posted in one hold, in place of one in each.
@@ -55,11 +48,15 @@ impl Plan {
             .wrapping_add(1)
     }
 
+    /// How many calls the messages have, each of which is answered.
+    pub(super) fn call_count(&self) -> u32 {
+        let calls = if self.is_long { CALLS_COUNT } else { 1 };
+        self.count.saturating_mul(calls as u32)
+    }
+
     /// How many parcels are sent.
     pub(super) fn parcel_count(&self) -> u32 {
-        let calls = if self.is_long { CALLS_COUNT } else { 1 };
-        self.count
-            .saturating_mul(calls as u32)
+        self.call_count()
             .saturating_add(u32::from(self.has_stranger))
     }
 
@@ -76,16 +73,18 @@ impl Plan {
 /// The marks that all threads of a link share.
 #[derive(Drop)]
 pub(crate) struct Marks {
-    // Whether the frame of the second dialogue was picked.
+    // The local transaction identifier of the second dialogue, and whether its frame was picked.
+    pub(super) second: u32,
     pub(crate) is_second_picked: AtomicBool,
     // How many parcels were sent.
     pub(super) sent: AtomicU32,
 }
 
 impl Marks {
-    /// Nothing was picked or sent.
-    pub(crate) fn new() -> Marks {
+    /// Nothing of this plan was picked or sent.
+    pub(crate) fn new(plan: Plan) -> Marks {
         Marks {
+            second: plan.local(1),
             is_second_picked: AtomicBool::new(false),
             sent: AtomicU32::new(0),
         }

@@ -2,10 +2,9 @@
 
 use super::plan::{Load, Marks};
 use crate::MOST_WAITS;
-use crate::messages::{STRANGE, frame_of, prepared};
+use crate::messages::{STRANGE, add_frame, frame_of, post_frame};
 use fp_book::Posted;
 use fp_entry::Prepared;
-use fp_frames::Frame;
 use fp_hub::{Gate, Hub, Seat};
 use std::collections::VecDeque;
 use std::rt::Clock;
@@ -15,32 +14,17 @@ use std::sync::ledger::Ledger;
 use std::thread;
 use std::time::Duration;
 
-/// Posts a message.
-fn post<R: Wait, A: Ledger, B: Ledger, C: Ledger>(
-    rt: &R,
-    hub: &Hub<A, B, C>,
-    seat: &mut Seat<A, B, C>,
-    load: Load<'_>,
-    frame: Option<Frame>,
-) -> Option<Posted> {
-    let came = prepared(load.alloc, load.table, frame)?;
-    Some(hub.post(rt, load.alloc, seat, came))
-}
-
-/// Puts a message of a plan at the end of a list. `None`: out of memory.
-fn add(came: &mut VecDeque<Prepared>, load: Load<'_>, number: u32) -> Option<()> {
-    let frame = load.plan.frame(load.alloc, number);
-    came.push_back(prepared(load.alloc, load.table, frame)?)
-        .ok()
-}
-
-/// The messages of a plan. `None`: out of memory.
-fn prepared_all(load: Load<'_>) -> Option<VecDeque<Prepared>> {
-    let mut came = VecDeque::new(load.alloc);
-    for number in 0..load.plan.count {
-        add(&mut came, load, number)?;
+/// Puts the messages of a plan at the end of a list, as many as memory allows.
+fn add_all(list: &mut VecDeque<Prepared>, load: Load<'_>) {
+    let Load {
+        alloc,
+        table,
+        plan,
+        ..
+    } = load;
+    for number in 0..plan.count {
+        let _is_added = add_frame(alloc, table, list, plan.frame(alloc, number));
     }
-    Some(came)
 }
 
 /// Hints once, or helps to serve messages that were posted in one hold. `false`: the hint failed.
@@ -60,8 +44,22 @@ fn hint_or_help<R: Wait, G: Gate, A: Ledger, B: Ledger, C: Ledger>(
     true
 }
 
-/// Posts the messages of a plan, at most 64, in one hold, and hints once, or helps to serve them. `false`: one wasn't
+/// Posts the messages of a list, at most 64, in one hold, and hints once, or helps to serve them. `false`: one wasn't
 /// posted, or the hint failed.
+fn post_list<R: Wait, G: Gate, A: Ledger, B: Ledger, C: Ledger>(
+    rt: &R,
+    hub: &Hub<A, B, C>,
+    seat: &mut Seat<A, B, C>,
+    gate: &G,
+    load: Load<'_>,
+    came: &mut VecDeque<Prepared>,
+) -> bool {
+    let is_aborted = hub.post_front(rt, load.alloc, seat, came);
+    let are_posted = !is_aborted && came.is_empty();
+    hint_or_help(rt, hub, seat, gate, load.plan.most_helped) && are_posted
+}
+
+/// Posts all messages of a plan in one hold, and hints once, or helps to serve them.
 fn post_in_one_hold<R: Wait, G: Gate, A: Ledger, B: Ledger, C: Ledger>(
     rt: &R,
     hub: &Hub<A, B, C>,
@@ -69,12 +67,9 @@ fn post_in_one_hold<R: Wait, G: Gate, A: Ledger, B: Ledger, C: Ledger>(
     gate: &G,
     load: Load<'_>,
 ) -> bool {
-    let Some(mut came) = prepared_all(load) else {
-        return false;
-    };
-    let is_aborted = hub.post_front(rt, load.alloc, seat, &mut came);
-    let are_posted = !is_aborted && came.is_empty();
-    hint_or_help(rt, hub, seat, gate, load.plan.most_helped) && are_posted
+    let mut came = VecDeque::new(load.alloc);
+    add_all(&mut came, load);
+    post_list(rt, hub, seat, gate, load, &mut came)
 }
 
 /// Posts a message of a plan, and hints if each has a hint of its own. `false`: it didn't open the dialogue that it
@@ -89,7 +84,7 @@ fn post_one<R: Wait + Clock, A: Ledger, B: Ledger, C: Ledger>(
     let plan = load.plan;
     thread::sleep(rt, Duration::from_millis(plan.pause));
     let frame = plan.frame(load.alloc, number);
-    match post(rt, hub, seat, load, frame) {
+    match post_frame(rt, load.alloc, hub, seat, load.table, frame) {
         Some(Posted::Opened(local)) if local == plan.local(number) => {
             plan.is_hinted_once || hub.hint(rt)
         }
@@ -107,7 +102,8 @@ fn post_stranger<R: Wait + Clock, A: Ledger, B: Ledger, C: Ledger>(
 ) -> bool {
     await_sent(rt, load.marks, load.plan.count);
     thread::sleep(rt, Duration::from_millis(load.plan.pause));
-    let posted = post(rt, hub, seat, load, frame_of(load.alloc, STRANGE));
+    let frame = frame_of(load.alloc, STRANGE);
+    let posted = post_frame(rt, load.alloc, hub, seat, load.table, frame);
     matches!(posted, Some(Posted::Aborted(_)))
 }
 
@@ -135,7 +131,7 @@ fn post_all<R: Wait + Clock, G: Gate, A: Ledger, B: Ledger, C: Ledger>(
     !plan.is_hinted_once || hub.hint(rt)
 }
 
-/// Waits until so many parcels were sent, but not too long.
+/// Waits until this number of parcels was sent, for ten seconds at most.
 fn await_sent<R: Clock>(rt: &R, marks: &Marks, count: u32) {
     for _ in 0..MOST_WAITS {
         if marks.sent.load(Ordering::SeqCst) >= count {

@@ -19,6 +19,23 @@ pub(super) struct Sent<A: Ledger, B: Ledger, C: Ledger> {
     pub(super) answers: Vec<Vec<u8>>,
 }
 
+/// Keeps the octets of a parcel, and says so if it is of the second dialogue.
+fn note(alloc: Global, answers: &mut Vec<Vec<u8>>, marks: &Marks, parcel: &Parcel) {
+    if parcel.local() == marks.second {
+        marks.is_second_picked.store(true, Ordering::SeqCst);
+    }
+    if let Ok(octets) = parcel.octets().to_vec(alloc) {
+        let _ = answers.push(octets);
+    }
+}
+
+/// Gives up a parcel that came back.
+fn give_up(back: Result<(), Parcel>) {
+    if let Err(foreign) = back {
+        foreign.abandon();
+    }
+}
+
 /// Keeps the octets of a parcel, and reports it sent.
 fn send<R: Wait, A: Ledger, B: Ledger, C: Ledger>(
     rt: &R,
@@ -28,19 +45,32 @@ fn send<R: Wait, A: Ledger, B: Ledger, C: Ledger>(
     marks: &Marks,
     parcel: Parcel,
 ) {
-    if parcel.local() & 0xFF == 2 {
-        marks.is_second_picked.store(true, Ordering::SeqCst);
-    }
-    if let Ok(octets) = parcel.octets().to_vec(alloc) {
-        let _ = sent.answers.push(octets);
-    }
-    if let Err(foreign) = hub.sent(rt, &mut sent.seat, parcel) {
-        foreign.abandon();
-    }
+    note(alloc, &mut sent.answers, marks, &parcel);
+    give_up(hub.sent(rt, &mut sent.seat, parcel));
     marks.sent.fetch_add(1, Ordering::SeqCst);
 }
 
-/// Sends until so many parcels were sent, or too long nothing was to be sent.
+/// Sends the next parcel, or waits a millisecond if there is none: how often it waited.
+fn send_next<R: Wait + Clock, A: Ledger, B: Ledger, C: Ledger>(
+    rt: &R,
+    alloc: Global,
+    hub: &Hub<A, B, C>,
+    sent: &mut Sent<A, B, C>,
+    marks: &Marks,
+) -> u32 {
+    match hub.pick(rt) {
+        Picked::Parcel(parcel) => {
+            send(rt, alloc, hub, sent, marks, parcel);
+            0
+        }
+        Picked::Busy | Picked::Nothing => {
+            thread::sleep(rt, Duration::from_millis(1));
+            1
+        }
+    }
+}
+
+/// Sends until this number of parcels was sent, or it has waited for ten seconds.
 pub(super) fn send_picked<R: Wait + Clock, A: Ledger, B: Ledger, C: Ledger>(
     rt: &R,
     alloc: Global,
@@ -58,13 +88,7 @@ pub(super) fn send_picked<R: Wait + Clock, A: Ledger, B: Ledger, C: Ledger>(
         if marks.sent.load(Ordering::SeqCst) >= count || waits >= MOST_WAITS {
             break;
         }
-        match hub.pick(rt) {
-            Picked::Parcel(parcel) => send(rt, alloc, hub, &mut sent, marks, parcel),
-            Picked::Busy | Picked::Nothing => {
-                waits += 1;
-                thread::sleep(rt, Duration::from_millis(1));
-            }
-        }
+        waits = waits.saturating_add(send_next(rt, alloc, hub, &mut sent, marks));
     }
     sent
 }

@@ -1,6 +1,6 @@
 //! Walks by messages that are held back, and by threads that sleep.
 
-use super::{WALK, Walk, assert_walk};
+use super::{WALK, Walk, assert_walks};
 use fp_book::Totals;
 use std::test::Fail;
 
@@ -20,20 +20,27 @@ parcel | give-in-share; tell; pause 1100; down => woken given
 /// answered one of several messages, as the call that posted them says, and after turns were given back.
 #[test]
 fn sender_is_woken(rt: HostRuntime) -> Result<(), Fail> {
-    for (name, script, served) in [("ABORT", ABORT, 0), ("ANSWER", ANSWER, 2)] {
-        let walk = Walk {
-            name,
-            script,
-            totals: Totals {
-                accepted: 1,
-                served,
-                sent: 0,
-            },
-            ..WALK
-        };
-        assert_walk(&rt, rt.alloc(), walk)?;
-    }
-    Ok(())
+    let abort = Walk {
+        name: "ABORT",
+        script: ABORT,
+        totals: Totals {
+            accepted: 1,
+            served: 0,
+            sent: 0,
+        },
+        ..WALK
+    };
+    let answer = Walk {
+        name: "ANSWER",
+        script: ANSWER,
+        totals: Totals {
+            accepted: 1,
+            served: 2,
+            sent: 0,
+        },
+        ..WALK
+    };
+    assert_walks(&rt, rt.alloc(), &[abort, answer])
 }
 
 /// Messages up to each limit and beyond: 64 entries of a dialogue, 64 Aborts of the provider, 7,168 places for frames,
@@ -92,7 +99,7 @@ fn messages_are_held_back(rt: HostRuntime) -> Result<(), Fail> {
         },
         ..WALK
     };
-    assert_walk(&rt, rt.alloc(), walk)
+    assert_walks(&rt, rt.alloc(), &[walk])
 }
 
 /// A thread that sleeps at each limit. Turns and parcels are given back in each way that there is.
@@ -163,23 +170,27 @@ offer reject => held back
 /// room; if none comes, it sleeps for that time, and says so.
 #[test]
 fn waiting_threads_are_woken(rt: HostRuntime) -> Result<(), Fail> {
-    for (name, script, accepted, served) in [
-        ("WAKING", WAKING, 184, 121),
-        ("IN_TIME", IN_TIME, 80, 17),
-    ] {
-        let walk = Walk {
-            name,
-            script,
-            totals: Totals {
-                accepted,
-                served,
-                sent: 0,
-            },
-            ..WALK
-        };
-        assert_walk(&rt, rt.alloc(), walk)?;
-    }
-    Ok(())
+    let waking = Walk {
+        name: "WAKING",
+        script: WAKING,
+        totals: Totals {
+            accepted: 184,
+            served: 121,
+            sent: 0,
+        },
+        ..WALK
+    };
+    let in_time = Walk {
+        name: "IN_TIME",
+        script: IN_TIME,
+        totals: Totals {
+            accepted: 80,
+            served: 17,
+            sent: 0,
+        },
+        ..WALK
+    };
+    assert_walks(&rt, rt.alloc(), &[waking, in_time])
 }
 
 /// The link goes down while a thread sleeps until there is room.
@@ -201,21 +212,20 @@ quiet | down => woken
 /// A thread that sleeps until there is room, or the link is quiet, is woken when the link goes down.
 #[test]
 fn end_of_the_link_wakes(rt: HostRuntime) -> Result<(), Fail> {
-    for (name, script) in [
-        ("DOWN_FOR_ROOM", DOWN_FOR_ROOM),
-        ("DOWN_FOR_QUIET", DOWN_FOR_QUIET),
-    ] {
-        let walk = Walk {
-            name,
-            script,
-            totals: Totals {
-                accepted: 64,
-                served: 1,
-                sent: 0,
-            },
-            ..WALK
-        };
-        assert_walk(&rt, rt.alloc(), walk)?;
-    }
-    Ok(())
+    let for_room = Walk {
+        name: "DOWN_FOR_ROOM",
+        script: DOWN_FOR_ROOM,
+        totals: Totals {
+            accepted: 64,
+            served: 1,
+            sent: 0,
+        },
+        ..WALK
+    };
+    let for_quiet = Walk {
+        name: "DOWN_FOR_QUIET",
+        script: DOWN_FOR_QUIET,
+        ..for_room
+    };
+    assert_walks(&rt, rt.alloc(), &[for_room, for_quiet])
 }

@@ -1,6 +1,6 @@
 //! Walks by single calls: each call of a hub, all places for frames, and hints.
 
-use super::{WALK, Walk, assert_walk};
+use super::{WALK, Walk, assert_walks};
 use fp_book::Totals;
 use std::test::Fail;
 
@@ -87,7 +87,7 @@ fn each_call_makes_its_step(rt: HostRuntime) -> Result<(), Fail> {
         },
         ..WALK
     };
-    assert_walk(&rt, rt.alloc(), walk)
+    assert_walks(&rt, rt.alloc(), &[walk])
 }
 
 /// All 8,192 places for frames are filled after a parcel was sent, by 513 messages of 16 calls. Two workers listen, and
@@ -141,24 +141,27 @@ serve-all-in-place => no room
 /// not before: 513 messages of 16 calls have 8,208 answers, one of which is sent before that.
 #[test]
 fn free_places_are_hinted(rt: HostRuntime) -> Result<(), Fail> {
-    for (name, script) in [
-        ("PLACES", PLACES),
-        ("PLACES_IN_SHARES", PLACES_IN_SHARES),
-        ("PLACES_IN_PLACE", PLACES_IN_PLACE),
-    ] {
-        let walk = Walk {
-            name,
-            script,
-            totals: Totals {
-                accepted: 8_208,
-                served: 8_707,
-                sent: 2,
-            },
-            ..WALK
-        };
-        assert_walk(&rt, rt.alloc(), walk)?;
-    }
-    Ok(())
+    let one_by_one = Walk {
+        name: "PLACES",
+        script: PLACES,
+        totals: Totals {
+            accepted: 8_208,
+            served: 8_707,
+            sent: 2,
+        },
+        ..WALK
+    };
+    let in_shares = Walk {
+        name: "PLACES_IN_SHARES",
+        script: PLACES_IN_SHARES,
+        ..one_by_one
+    };
+    let in_place = Walk {
+        name: "PLACES_IN_PLACE",
+        script: PLACES_IN_PLACE,
+        ..one_by_one
+    };
+    assert_walks(&rt, rt.alloc(), &[one_by_one, in_shares, in_place])
 }
 
 /// Hints to three workers, before the hub is closed and after.
@@ -185,5 +188,5 @@ fn hints_wait_for_each_worker(rt: HostRuntime) -> Result<(), Fail> {
         script: HINTS,
         ..WALK
     };
-    assert_walk(&rt, rt.alloc(), walk)
+    assert_walks(&rt, rt.alloc(), &[walk])
 }

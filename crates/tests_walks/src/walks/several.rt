@@ -1,6 +1,6 @@
 //! Walks by calls of several steps, each made in one hold of the lock.
 
-use super::{WALK, Walk, assert_walk};
+use super::{WALK, Walk, assert_walks};
 use fp_book::Totals;
 use std::test::Fail;
 
@@ -71,7 +71,7 @@ fn holds_make_several_steps(rt: HostRuntime) -> Result<(), Fail> {
         },
         ..WALK
     };
-    assert_walk(&rt, rt.alloc(), walk)
+    assert_walks(&rt, rt.alloc(), &[walk])
 }
 
 /// Five turns and four parcels, the last one after the link went down, among foreign ones or not. The foreign parcel
@@ -113,21 +113,22 @@ log => P T1 G1 P P P P P T2 T1 T3 T4 T5 G2 G1 G3 G4 G5 Q2 Y2 Q3 Y3 Q4 Y4 Q5 N Y5
 /// link is down. All else is as without them.
 #[test]
 fn foreign_ones_change_nothing(rt: HostRuntime) -> Result<(), Fail> {
-    for (name, are_foreign_brought) in [("FOREIGN", false), ("FOREIGN with them", true)] {
-        let walk = Walk {
-            are_foreign_brought,
-            name,
-            script: FOREIGN,
-            totals: Totals {
-                accepted: 5,
-                served: 10,
-                sent: 4,
-            },
-            ..WALK
-        };
-        assert_walk(&rt, rt.alloc(), walk)?;
-    }
-    Ok(())
+    let without = Walk {
+        name: "FOREIGN",
+        script: FOREIGN,
+        totals: Totals {
+            accepted: 5,
+            served: 10,
+            sent: 4,
+        },
+        ..WALK
+    };
+    let with = Walk {
+        are_foreign_brought: true,
+        name: "FOREIGN with them",
+        ..without
+    };
+    assert_walks(&rt, rt.alloc(), &[without, with])
 }
 
 /// Help with fewer turns than are ready, with none, and with all of them: a worker is hinted if some are left, and two
@@ -176,7 +177,7 @@ fn help_has_its_bound(rt: HostRuntime) -> Result<(), Fail> {
         },
         ..WALK
     };
-    assert_walk(&rt, rt.alloc(), walk)
+    assert_walks(&rt, rt.alloc(), &[walk])
 }
 
 /// The turns of 40 calls, served in several holds; then the turns of two calls, served in one.
@@ -210,7 +211,7 @@ fn turns_are_served_in_their_places(rt: HostRuntime) -> Result<(), Fail> {
         },
         ..WALK
     };
-    assert_walk(&rt, rt.alloc(), walk)
+    assert_walks(&rt, rt.alloc(), &[walk])
 }
 
 /// Forty calls, which a worker serves whose hub is closed when the first turn passes its gate.
@@ -240,5 +241,5 @@ fn closed_worker_gives_back_its_turns(rt: HostRuntime) -> Result<(), Fail> {
         },
         ..WALK
     };
-    assert_walk(&rt, rt.alloc(), walk)
+    assert_walks(&rt, rt.alloc(), &[walk])
 }

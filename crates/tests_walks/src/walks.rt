@@ -11,13 +11,17 @@
 //!
 //! | Module | The calls of |
 //! |---|---|
-//! | `posting` | messages: `post`, `posts`, `offer`, `offers`, `add`, `adds`, `begins`, `front` |
-//! | `turns` | turns, one by one: `turn`, `put-back`, `give-closed`, `put-back-closed`, `serve-all`, `worker` |
-//! | `shares` | turns, several in one hold, or in their places: `share`, `serve`, `help`, `serve-in-place` and others |
+//! | `posting` | messages: `post`, `offer`, `add`, `begins`, `front` |
+//! | `turns` | turns, one by one: `turn`, `put-back`, `give-closed`, `put-back-closed`, `serve`, `worker` |
+//! | `shares` | turns, several in one hold, or in their places: `share`, `help`, `serve-in-place` and others |
 //! | `parcels` | parcels: `send`, `unsend`, `pick`, `in-hold` and others |
 //! | `link` | the link and its workers: `tick`, `state`, `rest`, `quiet`, `down`, `hints`, `hint`, `close` and others |
 //! | `lines` | the log: `fullness`, `amount`, `drain`, `exchange`, `log` |
-//! | `foreign` | turns and parcels of another book: `foreign-turns`, `mix`, `foreign-parcels`, `foreign-in-hold` |
+//! | `foreign` | turns and parcels of another hub: `foreign-turns`, `mix`, `foreign-parcels`, `foreign-in-hold` |
+//! | `caller` | several calls that are the same: `posts`, `offers`, `adds`, `sends`, `serve-all` and others |
+//!
+//! Some calls have several steps (`caller`), which the modules list, too; a script doesn't call a step. All calls for turns
+//! but `share`, `serve` and `mix` need that no turn is at hand.
 
 ghost use Rattle.fp_hub.specs.Shares.{AreBlanks};
 
@@ -28,18 +32,19 @@ mod held;
 mod lines;
 mod link;
 mod parcels;
+mod playing;
 mod posting;
 mod several;
 mod shares;
 mod sleeping;
 mod turns;
 mod waiting;
+mod words;
 
-use crate::messages::RECORDS;
-use caller::play;
 use fp_book::Totals;
 use fp_hub::{Hub, PARTS, finish};
 use fp_records::Table;
+use playing::play;
 use std::alloc::Global;
 use std::marker::Brand;
 use std::rt::Clock;
@@ -47,6 +52,7 @@ use std::sync::Wait;
 use std::sync::ledger::{Blank, Ledger};
 use std::test::Fail;
 use std::thread::Threads;
+use tests_hub::messages::RECORDS;
 
 /// The calls that are made with the hub of a link, and the counts in the end.
 #[derive(Clone, Copy)]
@@ -72,31 +78,29 @@ const WALK: Walk = Walk {
     },
 };
 
-/// The result of a walk: the line that answered other words, if one did, and the counts.
-#[derive(Drop)]
-struct Walked {
-    fault: Option<String>,
-    totals: Option<Totals>,
-}
-
-/// Makes the calls of a walk with a hub whose ledgers are these.
+/// Makes the calls of a walk with a hub whose ledgers are these, and finishes the link: the counts. The text about a failure
+/// is cleared if each line answers its words. `None`: out of memory.
 fn walk_over<
     R: Threads + Wait + Clock + Sync,
     A: Ledger + Send + Sync,
     B: Ledger + Send + Sync,
     C: Ledger + Send + Sync,
->(rt: &R, alloc: Global, blanks: (Blank, Blank, Blank), table: &Table, walk: Walk) -> Option<Walked>
+>(
+    rt: &R,
+    alloc: Global,
+    blanks: (Blank, Blank, Blank),
+    table: &Table,
+    walk: Walk,
+    fault: &mut String,
+) -> Option<Totals>
     requires { AreBlanks blanks A.name A.parts B.name B.parts C.name C.parts }
 {
     if walk.link >= 8 {
         return None;
     }
     let (hub, seat) = Hub::<A, B, C>::new(alloc, walk.link, blanks).ok()?;
-    let (fault, seat) = play(rt, alloc, &hub, seat, table, walk);
-    Some(Walked {
-        fault,
-        totals: finish(hub, seat),
-    })
+    let seat = play(rt, alloc, &hub, seat, table, walk, fault);
+    finish(hub, seat)
 }
 
 /// Makes the calls of a walk, and finishes the link. `None`: out of memory.
@@ -105,25 +109,37 @@ fn walk_link<R: Threads + Wait + Clock + Sync>(
     alloc: Global,
     table: &Table,
     walk: Walk,
-) -> Option<Walked> {
+    fault: &mut String,
+) -> Option<Totals> {
     let blanks = (Blank::new(PARTS), Blank::new(PARTS), Blank::new(PARTS));
-    walk_over::<R, Brand, Brand, Brand>(rt, alloc, blanks, table, walk)
+    walk_over::<R, Brand, Brand, Brand>(rt, alloc, blanks, table, walk, fault)
 }
 
 /// Asserts that each line of a walk answers its words, and that as much is counted. A failure names the script.
 fn assert_walk<R: Threads + Wait + Clock + Sync>(
     rt: &R,
     alloc: Global,
+    table: &Table,
     walk: Walk,
 ) -> Result<(), Fail> {
-    let table = Table::read(alloc, RECORDS.as_bytes())?;
-    let Walked { fault, totals } = walk_link(rt, alloc, &table, walk).ok_or("out of memory")?;
     let name = walk.name;
-    if let Some(fault) = fault {
-        return Err(Fail::new(format_args!("{name}, {fault}")));
+    let mut fault = String::from_str(alloc, name)?;
+    let totals = walk_link(rt, alloc, table, walk, &mut fault);
+    if fault.is_empty() && totals == Some(walk.totals) {
+        return Ok(());
     }
-    if totals != Some(walk.totals) {
-        return Err(Fail::new(format_args!("{name}: it counted {totals:?}")));
+    Err(Fail::new(format_args!("{name} counted {totals:?}. {fault}")))
+}
+
+/// Asserts the same of each of these walks, one after the other.
+fn assert_walks<R: Threads + Wait + Clock + Sync>(
+    rt: &R,
+    alloc: Global,
+    walks: &[Walk],
+) -> Result<(), Fail> {
+    let table = Table::read(alloc, RECORDS.as_bytes())?;
+    for walk in walks {
+        assert_walk(rt, alloc, &table, *walk)?;
     }
     Ok(())
 }

@@ -1,4 +1,4 @@
-use Rattle.tests_hub.proofs.walks.walk_link.Given as goal
+use Rattle.tests_walks.proofs.walks.walk_link.Given as goal
 
 -- the three ledgers are those that the blanks open
 abbrev pub ghosts-walk_over-A-Ledger : goal.ghosts-walk_over-A-Ledger
