@@ -2,13 +2,15 @@
 import hashlib
 import subprocess
 
-from client import expect
+from client import expect, frames
 from run import free_address, page
 from setting import GIVEN, RECORDS, Run, events_of, until
+from tcap import call, connected
 
 
 def events(folder):
-    """With --events a line says which program runs, which records were read, which link came up, and why it went down."""
+    """With --events a line says which program runs, which records were read, which link came up, and why it went down. A
+    peer that closes its sending side gets its answer, and those that are inside a frame are reported, too."""
     with Run(folder, "--links", "4", "--events") as run:
         peers = [run.peer() for _ in range(4)]
         version = subprocess.run([GIVEN.program, "--version"], capture_output=True, text=True).stdout.strip()
@@ -16,13 +18,17 @@ def events(folder):
         wanted += ["link %d up %s:%d" % (link, *peer.socket.getsockname()) for link, peer in enumerate(peers)]
         reasons = ["peer closed", "bad frame length", "closed inside a frame", "read fault"]
         wanted += [f"link {link} down {reason}" for link, reason in enumerate(reasons)]
-        for peer in peers:
-            peer.call(1)
+        peers[0].play(frames([call(1)]))
+        peers[0].end_sending()
+        expect(peers[0].play(wanted=1) == [connected(1)], "no answer after the end of the input")
         peers[1].play(bytes(4))
-        peers[2].play(bytes(2))
+        peers[2].play(frames([call(1)])[:8])
+        peers[3].call(1)
         peers[3].close(is_reset=True)
         run.finish(*peers, errors=None)
         expect(sorted(events_of(run)) == sorted(wanted), f"the events are {events_of(run)}")
+        reports = [f"link {link} accepted {count} served {2 * count} sent {count}" for link, count in enumerate([1, 0, 0, 1])]
+        expect(run.printed().splitlines() == reports, f"the run printed {run.printed()}")
 
 
 def counters(folder):

@@ -60,6 +60,55 @@ def quit(folder):
     return f"it ended after {took:.1f} s"
 
 
+def links_and_quit(folder):
+    """A run says how far each link is, with an open dialogue, inside a frame, and closed; one that never came it leaves
+    out. A command to end with a further word is unknown. The next one ends the run beside an open standard input."""
+    with Run(folder, "--links", "4", "--commands", commands=subprocess.PIPE) as run:
+        opened, cut, gone = peers = [run.peer() for _ in range(3)]
+        addresses = ["%s:%d" % peer.socket.getsockname() for peer in peers]
+        expect(opened.open(1) == 1, "another identifier")
+        cut.play(frames([call(1)])[:8])
+        gone.call(1)
+        gone.close()
+        states = [("up", 1, 1), ("up", 0, 0), ("down", 1, 0)]
+        told = "".join(f"link {link} {state} {addresses[link]} accepted {count} served {2 * count} sent {count} held {held}\n"
+                       for link, (state, count, held) in enumerate(states)) + "links 3\n"
+
+        def is_told():
+            run.command("links")
+            return told in run.printed()
+
+        expect(until(is_told, 10), f"it says of its links: {run.printed()[-400:]}")
+        run.command("quit now")
+        run.command("quit")
+        expect(opened.ends(5) and cut.ends(5), "a link goes on")
+        run.expect_end(5, errors="command: unknown\n")
+        reports = "".join(f"link {link} accepted {count} served {2 * count} sent {count}\n"
+                          for link, count in enumerate([1, 0, 1, 0]))
+        expect(run.printed().endswith(told + reports), f"the run printed {run.printed()[-400:]}")
+        replay = run.replay()
+        expect((replay.returncode, replay.stdout, replay.stderr) == (0, reports, ""), f"the log replays to {replay}")
+
+
+def failed_output(folder):
+    """Standard output fails after its first line, when other records are reported: the run and its link end by that fault,
+    though more commands wait."""
+    errors = folder / "errors"
+    words = [GIVEN.program, "serve", folder / "records.csv", "--listen", "127.0.0.1:0", "--log", folder / "run.log"]
+    with errors.open("w") as file, subprocess.Popen(words, stdin=subprocess.PIPE, stdout=subprocess.PIPE, stderr=file,
+                                                    bufsize=0) as process:
+        try:
+            peer = Peer(("127.0.0.1", int(process.stdout.readline().rsplit(b":")[-1])))
+            peer.call(1)
+            process.stdout.close()
+            process.stdin.write(3 * b"reload\n")
+            expect(peer.ends(5), "the link goes on though standard output can't be written")
+            found = process.wait(10 * GIVEN.patience), errors.read_text()
+            expect(found == (1, "output: cannot be written\n"), f"the run ended with {found}")
+        finally:
+            process.kill()
+
+
 def quit_at_once(folder):
     """While a `reload` reads a file that hangs, and while nobody reads standard output, the command to end ends a link
     at once; the run ends once the command before it is followed."""

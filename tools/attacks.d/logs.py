@@ -68,9 +68,10 @@ def log_comes_back(folder):
 
 
 def full_log(folder):
-    """The log is a device that is full: the run ends by itself, status 1."""
+    """The log is a device that is full: the run says where it listens, and ends by itself, status 1."""
     with Run(folder, log="/dev/full") as run:
         run.expect_end(3, 1, LOG_FAULT)
+        expect(run.address() and run.printed() == "", f"the run printed {run.printed()}")
 
 
 @contextlib.contextmanager
@@ -124,14 +125,19 @@ def log_gaps(folder):
 
 
 def two_runs(folder):
-    """A second run on the log of the first: it is refused, and the first one's log replays."""
-    with Run(folder) as run:
-        peer = run.peer()
-        peer.calls(100)
-        with Run(folder, log=run.log) as second:
-            second.expect_end(3, 1, "log: cannot be opened\n")
-        peer.calls(100)
-        run.finish(peer)
+    """A second run on the log of the first: it is refused and prints nothing, and the first one's log replays; nothing
+    is written into it."""
+    for count in (100, 0):
+        with Run(folder) as run:
+            peer = run.peer()
+            peer.calls(count)
+            with Run(folder, log=run.log) as second:
+                second.expect_end(3, 1, "log: cannot be opened\n")
+                expect(second.output.read_text() == "", f"the second one printed {second.output.read_text()}")
+            peer.calls(count)
+            run.finish(peer)
+    log, reports = run.log.read_text(), run.reports()
+    expect(log == "fplog 4 1\n0 N\n" and reports == ["link 0 accepted 0 served 0 sent 0"], f"'{log}', {reports}")
 
 
 def records_as_log(folder):

@@ -7,10 +7,11 @@ import signal
 import subprocess
 import time
 
+import wire
 from client import Failed, expect, frames
 from run import free_address
-from setting import GIVEN, Peer, Run, Skipped, events_of, in_time, until
-from tcap import call, connected
+from setting import FIRST, GIVEN, TWO_PLACES, Peer, Run, Skipped, connection, events_of, in_time, until
+from tcap import call, connected, ended
 
 
 def half_close(folder):
@@ -68,6 +69,44 @@ def bad_frames(folder):
             honest.call(4)
         expect(loris.play(wanted=1) == [connected(3)], "no answer to octets that come one at a time")
         run.finish(loris, honest, *others)
+
+
+def node(folder):
+    """A node on a signalling network answers a Begin of the common connection by its own one. Drained, it closes the common
+    one, refuses its unit to a further one, serves the open dialogue, and ends; its log replays."""
+    exchange, common, own = wire.address(100, 12), wire.address(200, 241), wire.address(201, 241)
+    asks, acknowledged = wire.ipa(wire.CCM, b"\4\1\1"), wire.ipa(wire.CCM, bytes([wire.ID_ACK]))
+
+    def expect_octets(link, octets):
+        came = link.incoming.read(len(octets))
+        expect(came == octets, f"'{came.hex()}' came, and not '{octets.hex()}'")
+
+    def name(link, unit):
+        expect_octets(link, asks)
+        # (without the zero that may follow a name)
+        link.socket.sendall(wire.ipa(wire.CCM, bytes([wire.ID_RESP, 0, len(unit) + 1, 1]) + unit.encode()))
+
+    def connected_as(unit):
+        link = run.link(10 * GIVEN.patience)
+        name(link, unit)
+        expect_octets(link, acknowledged)
+        link.socket.sendall(acknowledged)
+        return link
+
+    options = ["--sccp", "201:241", "--exchange", "100:12", "--units", "scp,scp-201", "--tag", "0", "--commands"]
+    with Run(folder, *options, commands=subprocess.PIPE) as run:
+        answering, asking = connected_as("scp-201"), connected_as("scp")
+        asking.socket.sendall(wire.ipa(wire.SCCP, wire.udt(common, exchange, call(42, TWO_PLACES))))
+        expect_octets(answering, wire.ipa(wire.SCCP, wire.udt(exchange, own, connection(42, 1, 1, FIRST))))
+        run.command("drain")
+        expect(asking.incoming.read() == b"", "more came on the common connection")
+        late = run.link(10 * GIVEN.patience)
+        name(late, "scp")
+        expect(late.incoming.read() == b"", "the unit is taken while the node is drained")
+        answering.socket.sendall(wire.ipa(wire.SCCP, wire.udt(own, exchange, ended(1))))
+        expect(answering.incoming.read() == b"", "more came after the end of the dialogue")
+        run.finish(answering, asking, late)
+        expect(run.reports() == ["link 0 accepted 1 served 3 sent 1"], f"the run printed {run.reports()}")
 
 
 def late_connection(folder):

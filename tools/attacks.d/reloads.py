@@ -4,8 +4,9 @@ import subprocess
 import time
 
 from client import expect, frames
-from setting import GIVEN, Run, until
+from setting import FIRST, GIVEN, RECORDS, SECOND, TWO_PLACES, Run, connection, reported, until
 from tcap import call, connected
+from words import BAD_RECORDS
 
 
 def many_rules(count, place):
@@ -63,6 +64,44 @@ def reload(folder):
         run.process.stdin.close()
         run.finish(errors="record 1: BadHead\ncommand: unknown\nreload: refused\n")
         return f"{counts[0]} and {counts[1]} calls by the two files, memory {memory[100]:.1f} to {memory[900]:.1f} MB"
+
+
+def open_calls(folder):
+    """A call that is open while the records are replaced goes on by the rule that it got, later calls get the new ones,
+    also on a link without a call before. Faulty records and commands that aren't known replace nothing."""
+    first, new, bad = (folder / name for name in ("first.csv", "new.csv", "bad.csv"))
+    first.write_text(RECORDS)
+    new.write_text("key,100,60\n800123456,,1234567,00:00,24:00,1,route,302223399\n"
+                   "800123457,,1234567,00:00,24:00,1,refuse\n")
+    bad.write_text(BAD_RECORDS)
+
+    def replace(file, *commands):
+        run.write_records(file.read_text())
+        for command in ("reload", *commands):
+            run.command(command)
+
+    with Run(folder, "--links", "2", commands=subprocess.PIPE) as run:
+        peer, quiet = run.peer(), run.peer()
+        came = peer.play(frames([call(1, TWO_PLACES)]), 1)
+        expect(came == [connection(1, 1, 1, FIRST)], f"a call for two places got {came}")
+        peer.get([connected(2)], frames([call(2)]))
+        replace(new)
+        expect(until(lambda: run.has_reloaded(1), 10), "no reload 1")
+        for one, number in ((peer, 3), (quiet, 4)):
+            one.get([connected(number, "302223399")], frames([call(number)]))
+        peer.get([connection(1, 1, 3, SECOND)], frames([reported(1, 1, 2, 5)]))
+        replace(bad, "reload records", "links", "quit")
+        faults = "record 2: BadDays\n" + 3 * "command: unknown\n"
+        expect(until(lambda: run.errors.read_text() == faults, 10), f"the faults are {run.errors.read_text()}")
+        peer.get([connected(5, "302223399")], frames([call(5)]))
+        replace(first)
+        expect(until(lambda: run.has_reloaded(2), 10), "no reload 2")
+        peer.get([connected(6)], frames([call(6)]))
+        run.process.stdin.close()
+        run.records, run.later = first, [new, first]
+        run.finish(peer, quiet, errors=faults)
+        reports = "".join(f"{line}\n" for line in run.reports())
+        expect(run.printed() == "reloaded 1\nreloaded 2\n" + reports, f"the run printed {run.printed()}")
 
 
 def more_reloads(folder):

@@ -111,11 +111,6 @@ impl Client {
         Some(Client { stream })
     }
 
-    /// Its own address.
-    pub(crate) fn address(&self) -> Option<SocketAddr> {
-        self.stream.local_addr().ok()
-    }
-
     /// Writes octets.
     pub(crate) fn write(&mut self, octets: &[u8]) -> Option<()> {
         self.stream.write_all(octets).ok()
@@ -138,16 +133,6 @@ impl Client {
         octets.resize(count, 0).ok()?;
         self.stream.read_exact(octets.as_mut_slice()).ok()?;
         hex::encode_upper(alloc, octets.as_slice()).ok()
-    }
-
-    /// Reads octets. `None`: others come than those of this hexadecimal text, in upper case.
-    pub(crate) fn expect_octets(&mut self, alloc: Global, wanted: &str) -> Option<()> {
-        let text = self.read_text(alloc, wanted.len() / 2)?;
-        if text.as_str() == wanted {
-            Some(())
-        } else {
-            None
-        }
     }
 
     /// Reads the next frame, and gives the hexadecimal text of its message.

@@ -43,24 +43,6 @@ impl<R: Wait> Write for Shared<'_, R> {
     }
 }
 
-/// Waits until a text has this in it. `None`: it hadn't in time.
-pub(crate) fn await_text_in<R: Wait + Clock>(
-    rt: &R,
-    text: &Mutex<Vec<u8>>,
-    wanted: &str,
-) -> Option<()> {
-    for _ in 0..MOST_WAITS {
-        let has_text = str::from_utf8(text.lock(rt).as_slice()).is_ok_and(|text| text.contains(
-            wanted,
-        ));
-        if has_text {
-            return Some(());
-        }
-        thread::sleep(rt, Duration::from_millis(1));
-    }
-    None
-}
-
 /// The address in the first line of a text, if that line is complete.
 fn address_in(text: &[u8]) -> Option<SocketAddr> {
     let end = text.iter().position(|octet| *octet == b'\n')?;

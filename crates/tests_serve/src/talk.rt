@@ -49,11 +49,6 @@ pub(crate) fn calls(alloc: Global, client: &mut Client, identifier: u32) -> Opti
     client.expect(alloc, answer(alloc, identifier).ok()?.as_str())
 }
 
-/// The message that answers it by records that lead the number to 302223399.
-pub(crate) fn led_elsewhere(alloc: Global, identifier: u32) -> Result<String, AllocError> {
-    format!(in alloc; "641D4904{identifier:08X}6C15A113020101020114300BA009040783100322329309")
-}
-
 /// The frame of such a Begin from 2A that names the application context 2A0304.
 pub(crate) const BEGIN_WITH_CONTEXT: &str =
     "0000004B624948040000002A6B1A2818060700118605010101A00D600B80020780A10506032A03046C25A123020101020100301B80016482078310081032540683078313032143650785010A9C0103";
@@ -204,24 +199,4 @@ pub(crate) fn all_kinds<R: Net<Stream = TcpStream>>(
     } else {
         None
     }
-}
-
-/// Opens the first dialogue of a link, for a number that leads to two places. `None`: it isn't led to the first, or has
-/// another local identifier than this.
-pub(crate) fn opens_under(alloc: Global, client: &mut Client, local: &str) -> Option<()> {
-    client.write_text(alloc, begin_for(alloc, 0x101, "07").ok()?.as_str())?;
-    let first = connection(alloc, local, "01", "02", "4304").ok()?;
-    client.expect(alloc, first.as_str())
-}
-
-/// Opens the first dialogue of link 0, in a run without a tag.
-pub(crate) fn opens(alloc: Global, client: &mut Client) -> Option<()> {
-    opens_under(alloc, client, "00000001")
-}
-
-/// The first place of that dialogue is busy. `None`: it isn't led to the second.
-pub(crate) fn goes_on(alloc: Global, client: &mut Client) -> Option<()> {
-    client.write_text(alloc, report(alloc, "00000001", "02", "05").ok()?.as_str())?;
-    let second = connection(alloc, "00000001", "03", "04", "5305").ok()?;
-    client.expect(alloc, second.as_str())
 }
