@@ -5,20 +5,23 @@
 //! what its links counted. They are in a crate of their own so that `fp_serve` is proved once. `tools/attacks` plays
 //! the built program, `scp serve`, in the same way.
 //!
-//! * `links`: runs of `fp_serve`; clients connect, write and read. `links/gates` has turns that wait, `links/ends` what
-//!   ends a link, `links/connections` clients that break off or come late, and `links/devices` logs whose device hangs,
-//!   fails or is slow.
+//! * `run`: a run of `fp_serve`, beside the clients of `tests_peer`, and what came of it.
+//! * `links`: calls on one link or more, and connections that break off, come late or can't be accepted.
+//! * `ends`: what ends a link.
+//! * `logs`: logs whose device hangs, fails or is slow.
+//! * `gates`: turns that pass a gate, which counts or holds them.
 //! * `tables`: records that are replaced as often as they can be.
-//! * `client`, `memory` and `talk`: connections, the outputs of a run, and what clients say.
 #![tactic(auto)]
 
 #[cfg(test)]
-mod client;
+mod ends;
+#[cfg(test)]
+mod gates;
 #[cfg(test)]
 mod links;
 #[cfg(test)]
-mod memory;
+mod logs;
+#[cfg(test)]
+mod run;
 #[cfg(test)]
 mod tables;
-#[cfg(test)]
-mod talk;

@@ -1,11 +1,11 @@
 //! The records of a run, replaced as often as they can be.
 
-use crate::talk::RECORDS;
 use fp_hub::Tables;
 use fp_records::Table;
 use std::alloc::Global;
 use std::sync::Wait;
 use std::test::Fail;
+use tests_peer::talk::RECORDS;
 
 /// A table of the records of the calls.
 fn table(alloc: Global) -> Result<Table, Fail> {

@@ -1,7 +1,7 @@
 //! Clients with many calls.
 
-use super::trial::Trial;
 use crate::client::Client;
+use crate::streams::Streams;
 use crate::talk::{
     ABORTED, END, ERROR, ERROR_REFUSED, UNKNOWN, answer, begin, continues, long_begin,
 };
@@ -107,9 +107,9 @@ pub(crate) fn make_all_calls<R: Net<Stream = TcpStream> + Clock>(
 pub(crate) fn write_bursts<R: Net<Stream = TcpStream> + Wait + Clock>(
     rt: &R,
     alloc: Global,
-    trial: &Trial,
+    streams: &Streams,
 ) -> Option<()> {
-    let mut client = Client::connect(rt, trial.address(rt)?)?;
+    let mut client = Client::connect(rt, streams.address(rt)?)?;
     client.write_text(alloc, long_begin(alloc).ok()?.as_str())?;
     client.message(alloc)?;
     client.write_text(alloc, continues(alloc, ERROR, 5).ok()?.as_str())?;
@@ -122,4 +122,15 @@ pub(crate) fn write_bursts<R: Net<Stream = TcpStream> + Wait + Clock>(
     }
     client.write_text(alloc, unknown.as_str())?;
     client.messages(alloc, 20_000, ABORTED)
+}
+
+/// Makes this number of calls at once on a connection of its own, and closes it. `None`: one wasn't answered.
+pub(crate) fn call_at_once<R: Net<Stream = TcpStream> + Wait + Clock>(
+    rt: &R,
+    alloc: Global,
+    streams: &Streams,
+    count: u32,
+) -> Option<()> {
+    let mut client = Client::connect(rt, streams.address(rt)?)?;
+    make_calls(alloc, &mut client, 0, count)
 }

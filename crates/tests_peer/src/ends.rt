@@ -1,24 +1,21 @@
 //! What ends a link: its client, which may read nothing, its dialogues, the log, or a command.
 
-use super::crowd::{make_calls, read_answers, read_answers_and_call, write_begins};
-use super::device::Mood;
-use super::trial::{Trial, await_text, lacks_text};
-use crate::client::{Client, shorten_limits, shrink_buffers};
+use crate::client::{Client, shorten_limits};
+use crate::crowd::{make_calls, read_answers, read_answers_and_call, write_begins};
+use crate::device::Mood;
+use crate::streams::Streams;
 use crate::talk::{REJECT, UNKNOWN, continues, long_begin};
-use fp_hub::OpenGate;
-use fp_serve::{ServeFault, Settings, Wanted};
 use std::alloc::Global;
-use std::net::{Net, TcpListener, TcpStream};
+use std::net::{Net, TcpStream};
 use std::rt::Clock;
 use std::sync::Wait;
 use std::test::Fail;
-use std::thread::Threads;
+use std::thread;
 use std::time::{Duration, Instant};
-use std::{str, thread};
 
 /// What ends link 0, whose client has made calls and read no answer.
 #[derive(Clone, Copy, PartialEq, Eq)]
-enum Cause {
+pub enum Cause {
     /// The client closes its sending side, and reads the answers.
     EndOfInput,
     /// It closes its sending side, and reads nothing.
@@ -39,14 +36,14 @@ enum Cause {
 
 /// A way in which link 0 ends.
 #[derive(Clone, Copy)]
-struct Row {
+pub struct Ending {
     /// How many calls its client makes first.
     calls: u32,
-    /// How many turns its receiving thread serves at once at most.
-    most_helped: usize,
+    /// Whether its receiving thread serves turns, too.
+    pub is_helped: bool,
     /// What its log has in it before the cause comes.
     log: &'static str,
-    cause: Cause,
+    pub cause: Cause,
     /// The seconds from the cause to the end, at least, unless all that was accepted is served and sent.
     least_seconds: u64,
     /// Its event: this one or the other.
@@ -54,7 +51,6 @@ struct Row {
     other_event: &'static str,
     /// What the run reports of it begins so.
     told: &'static str,
-    fault: Option<ServeFault>,
 }
 
 /// The line of the log that says that the last of 7,000 calls is served. So many answers block the sending thread. Of
@@ -73,138 +69,126 @@ const LATE: u64 = 500;
 
 /// The ways in which link 0 ends. Where a client reads nothing while its link serves and sends in the receiving thread,
 /// that one is blocked, and sees the end of the input only once the client reads.
-const ROWS: [Row; 12] = [
-    Row {
+pub const ENDINGS: [Ending; 12] = [
+    Ending {
         calls: 500,
-        most_helped: Settings::MOST_HELPED,
+        is_helped: true,
         log: "",
         cause: Cause::EndOfInput,
         least_seconds: 0,
         event: " link 0 down peer closed\n",
         other_event: " link 0 down peer closed\n",
         told: "link 0 accepted 500 served 1000 sent 500\n",
-        fault: None,
     },
-    Row {
+    Ending {
         calls: 6_500,
-        most_helped: 0,
+        is_helped: false,
         log: "",
         cause: Cause::UnreadAnswers,
         least_seconds: 2,
         event: " link 0 down peer closed\n",
         other_event: " link 0 down peer closed\n",
         told: "link 0 accepted 6500 served ",
-        fault: None,
     },
-    Row {
+    Ending {
         calls: 10_000,
-        most_helped: 0,
+        is_helped: false,
         log: SERVED_7000,
         cause: Cause::ClientGone,
         least_seconds: 0,
         event: " link 0 down write fault\n",
         other_event: " link 0 down read fault\n",
         told: "link 0 accepted ",
-        fault: None,
     },
-    Row {
+    Ending {
         calls: 10_000,
-        most_helped: 0,
+        is_helped: false,
         log: SERVED_7000,
         cause: Cause::LogFault,
         least_seconds: 0,
         event: " link 0 down log fault\n",
         other_event: " link 0 down log fault\n",
         told: "link 0 accepted ",
-        fault: Some(ServeFault::UnwrittenLog),
     },
-    Row {
+    Ending {
         calls: 10_000,
-        most_helped: Settings::MOST_HELPED,
+        is_helped: true,
         log: SERVED_4000,
         cause: Cause::ClientGone,
         least_seconds: 0,
         event: " link 0 down write fault\n",
         other_event: " link 0 down read fault\n",
         told: "link 0 accepted ",
-        fault: None,
     },
-    Row {
+    Ending {
         calls: 10_000,
-        most_helped: Settings::MOST_HELPED,
+        is_helped: true,
         log: SERVED_4000,
         cause: Cause::LogFault,
         least_seconds: 0,
         event: " link 0 down log fault\n",
         other_event: " link 0 down log fault\n",
         told: "link 0 accepted ",
-        fault: Some(ServeFault::UnwrittenLog),
     },
-    Row {
+    Ending {
         calls: 10_000,
-        most_helped: Settings::MOST_HELPED,
+        is_helped: true,
         log: SERVED_4000,
         cause: Cause::LateReader,
         least_seconds: 0,
         event: " link 0 down peer closed\n",
         other_event: " link 0 down peer closed\n",
         told: "link 0 accepted 10000 served 20000 sent 10000\n",
-        fault: None,
     },
-    Row {
+    Ending {
         calls: 10_000,
-        most_helped: Settings::MOST_HELPED,
+        is_helped: true,
         log: SERVED_4000,
         cause: Cause::GivenUp,
         least_seconds: 0,
         event: " link 0 down peer gone\n",
         other_event: " link 0 down peer gone\n",
         told: "link 0 accepted ",
-        fault: None,
     },
-    Row {
+    Ending {
         calls: 0,
-        most_helped: Settings::MOST_HELPED,
+        is_helped: true,
         log: "",
         cause: Cause::Entries,
         least_seconds: 0,
         event: " link 0 down entries\n",
         other_event: " link 0 down entries\n",
         told: "link 0 accepted 1009 served ",
-        fault: None,
     },
-    Row {
+    Ending {
         calls: 500,
-        most_helped: Settings::MOST_HELPED,
+        is_helped: true,
         log: "\n0 Y 500\n",
         cause: Cause::Quit,
         least_seconds: 0,
         event: " link 0 down quit\n",
         other_event: " link 0 down quit\n",
         told: "link 0 accepted 500 served 1000 sent 500\n",
-        fault: None,
     },
-    Row {
+    Ending {
         calls: 10_000,
-        most_helped: 0,
+        is_helped: false,
         log: SERVED_7000,
         cause: Cause::Quit,
         least_seconds: 2,
         event: " link 0 down quit\n",
         other_event: " link 0 down quit\n",
         told: "link 0 accepted ",
-        fault: None,
     },
-    Row {
+    Ending {
         calls: 10_000,
-        most_helped: Settings::MOST_HELPED,
+        is_helped: true,
         log: SERVED_4000,
         cause: Cause::Quit,
         least_seconds: 2,
         event: " link 0 down quit\n",
         other_event: " link 0 down quit\n",
         told: "link 0 accepted ",
-        fault: None,
     },
 ];
 
@@ -215,23 +199,23 @@ const MOST_SECONDS: u64 = 30;
 fn bring_about<R: Wait + Clock>(
     rt: &R,
     alloc: Global,
-    trial: &Trial,
-    row: Row,
+    streams: &Streams,
+    ending: Ending,
     client: &mut Client,
     other: &mut Client,
 ) -> Option<()> {
-    match row.cause {
+    match ending.cause {
         Cause::EndOfInput => {
             client.end_input()?;
-            read_answers(alloc, client, 0, row.calls)
+            read_answers(alloc, client, 0, ending.calls)
         }
         Cause::UnreadAnswers => client.end_input(),
         Cause::LateReader => {
             client.end_input()?;
             thread::sleep(rt, Duration::from_millis(LATE));
             // So the end of the input wasn't seen either.
-            lacks_text(rt, &trial.log, POSTED_9000)?;
-            read_answers(alloc, client, 0, row.calls)
+            streams.lacks_in_log(rt, POSTED_9000)?;
+            read_answers(alloc, client, 0, ending.calls)
         }
         Cause::GivenUp => {
             shorten_limits();
@@ -239,7 +223,7 @@ fn bring_about<R: Wait + Clock>(
         }
         Cause::ClientGone => Some(()),
         Cause::LogFault => {
-            trial.set_mood(rt, Mood::Fails(0));
+            streams.set_mood(rt, Mood::Fails(0));
             // So that there is a line to be written.
             other.write_text(alloc, UNKNOWN)
         }
@@ -248,46 +232,46 @@ fn bring_about<R: Wait + Clock>(
             client.message(alloc)?;
             client.write_text(alloc, continues(alloc, REJECT, 63).ok()?.as_str())
         }
-        Cause::Quit => trial.command(rt, "quit\n"),
+        Cause::Quit => streams.command(rt, "quit\n"),
     }
 }
 
-/// Makes the calls of a row on link 0 and one on link 1, and waits until the log has what the row wants.
+/// Makes the calls of an ending on link 0 and one on link 1, and waits until the log has what the ending wants.
 fn make_calls_before<R: Net<Stream = TcpStream> + Wait + Clock>(
     rt: &R,
     alloc: Global,
-    trial: &Trial,
-    row: Row,
+    streams: &Streams,
+    ending: Ending,
     client: &mut Client,
 ) -> Option<Client> {
-    write_begins(alloc, client, 0, row.calls)?;
-    await_text(rt, &trial.log, row.log)?;
-    let mut other = Client::connect(rt, trial.address(rt)?)?;
+    write_begins(alloc, client, 0, ending.calls)?;
+    streams.await_log(rt, ending.log)?;
+    let mut other = Client::connect(rt, streams.address(rt)?)?;
     make_calls(alloc, &mut other, 0x2A, 1)?;
-    if row.cause == Cause::Quit {
+    if ending.cause == Cause::Quit {
         // What comes later would be read no more.
-        trial.await_still_log(rt)?;
+        streams.await_still_log(rt)?;
     }
     Some(other)
 }
 
-/// Ends link 0 as a row says, after another client made a call on link 1, and waits until that is reported. Gives how
+/// Ends link 0 in this way, after another client made a call on link 1, and waits until that is reported. Gives how
 /// many seconds after the cause it was. `None`: something else came than has to.
-fn end_link<R: Net<Stream = TcpStream> + Wait + Clock>(
+pub(crate) fn end_link<R: Net<Stream = TcpStream> + Wait + Clock>(
     rt: &R,
     alloc: Global,
-    trial: &Trial,
-    row: Row,
+    streams: &Streams,
+    ending: Ending,
 ) -> Option<u64> {
-    let mut client = Client::connect(rt, trial.address(rt)?)?;
-    let mut other = make_calls_before(rt, alloc, trial, row, &mut client)?;
+    let mut client = Client::connect(rt, streams.address(rt)?)?;
+    let mut other = make_calls_before(rt, alloc, streams, ending, &mut client)?;
     let start = Instant::now(rt).ok()?;
-    bring_about(rt, alloc, trial, row, &mut client, &mut other)?;
-    if row.cause == Cause::ClientGone {
+    bring_about(rt, alloc, streams, ending, &mut client, &mut other)?;
+    if ending.cause == Cause::ClientGone {
         drop(client);
-        await_text(rt, &trial.errors, " link 0 down ")?;
+        streams.await_errors(rt, " link 0 down ")?;
     } else {
-        await_text(rt, &trial.errors, " link 0 down ")?;
+        streams.await_errors(rt, " link 0 down ")?;
         drop(client);
     }
     Some(start.elapsed(rt).ok()?.as_secs())
@@ -314,62 +298,23 @@ fn is_all_sent(told: &str) -> bool {
     }
 }
 
-/// Runs two links, of which link 0 ends as a row says, and compares what comes of it. If there is no fault, the log
-/// replays to what was counted.
-fn run_row<R>(rt: &R, alloc: Global, row: Row) -> Result<(), Fail>
-where
-    R: Threads + Wait + Clock + Net<Listener = TcpListener, Stream = TcpStream>,
-    R: Copy + Send + Sync + 'static,
-{
-    let settings = Settings::new(2, 2)
-        .ok_or("settings")?
-        .with_most_helped(row.most_helped);
-    let settings = match row.cause {
-        Cause::Entries => settings.with_most_entries(1_000),
-        Cause::Quit => settings.with_commands(),
-        _ => settings,
-    };
-    let trial = Trial::with_events(rt, alloc, settings, Mood::Takes(0), Wanted::All)?;
-    let listener = TcpListener::bind(rt, "127.0.0.1:0")?;
-    shrink_buffers(&listener);
-    let (outcome, seconds) = thread::join(
-        rt,
-        || trial.serve(rt, alloc, &OpenGate, listener),
-        || end_link(rt, alloc, &trial, row),
-    );
-    let seconds = seconds.ok_or("no answer, or no event")?;
-    let outcome = outcome.ok_or("out of memory")?;
-    let errors = trial.errors.lock(rt).to_vec(alloc)?;
-    let events = str::from_utf8(errors.as_slice())?;
-    if !events.contains(row.event) && !events.contains(row.other_event) {
-        return Err(Fail::new(events));
+impl Ending {
+    /// Fails unless link 0 ended in this way, this number of seconds after the cause, with these reports of the two
+    /// links and these events.
+    pub fn want(&self, seconds: u64, told: &str, events: &str) -> Result<(), Fail> {
+        if !events.contains(self.event) && !events.contains(self.other_event) {
+            return Err(Fail::new(events));
+        }
+        if seconds >= MOST_SECONDS || seconds < self.least_seconds && !is_all_sent(told) {
+            return Err(Fail::new(format_args!("{seconds} seconds, {told}")));
+        }
+        if !told.starts_with(self.told)
+            || !told.ends_with("\nlink 1 accepted 1 served 2 sent 1\n")
+        {
+            return Err(Fail::new(told));
+        }
+        Ok(())
     }
-    let told = str::from_utf8(outcome.told.as_slice())?;
-    if seconds >= MOST_SECONDS || seconds < row.least_seconds && !is_all_sent(told) {
-        return Err(Fail::new(format_args!("{seconds} seconds, {told}")));
-    }
-    let is_replayed = outcome.fault.is_some() || outcome.replayed == outcome.told;
-    if outcome.fault != row.fault
-        || !is_replayed
-        || !told.starts_with(row.told)
-        || !told.ends_with("\nlink 1 accepted 1 served 2 sent 1\n")
-    {
-        return Err(Fail::new(told));
-    }
-    Ok(())
-}
-
-/// Each link ends by its cause, in time and for its reason, also one whose sending thread is blocked, since its client
-/// reads nothing, and whose receiving thread holds a message back, and one whose receiving thread is blocked, since it
-/// sends: if its client closes its sending side then and reads later, it gets all answers. The client of another link
-/// is answered meanwhile.
-#[test]
-fn a_link_ends_for_its_reason(rt: HostRuntime) -> Result<(), Fail> {
-    let alloc = rt.alloc();
-    for row in ROWS {
-        run_row(&rt, alloc, row)?;
-    }
-    Ok(())
 }
 
 /// How many calls a client makes before the command to end: their answers are more than the system hands over before
@@ -381,38 +326,16 @@ const SENT_8000: &str = "\n0 Y 8000\n";
 
 /// Makes calls, ends the run once all answers are on their way, and reads these only once the link is down, while it
 /// goes on making calls. `None`: an answer is missing, or another one came.
-fn call_on_at_the_end<R: Net<Stream = TcpStream> + Wait + Clock>(
+pub(crate) fn call_on_at_the_end<R: Net<Stream = TcpStream> + Wait + Clock>(
     rt: &R,
     alloc: Global,
-    trial: &Trial,
+    streams: &Streams,
 ) -> Option<()> {
-    let mut client = Client::connect(rt, trial.address(rt)?)?;
+    let mut client = Client::connect(rt, streams.address(rt)?)?;
     write_begins(alloc, &mut client, 0, CALLS)?;
-    await_text(rt, &trial.log, SENT_8000)?;
-    trial.command(rt, "quit\n")?;
-    await_text(rt, &trial.errors, " link 0 down quit\n")?;
+    streams.await_log(rt, SENT_8000)?;
+    streams.command(rt, "quit\n")?;
+    streams.await_errors(rt, " link 0 down quit\n")?;
     read_answers_and_call(alloc, &mut client, 0, CALLS)?;
     if client.is_at_end() { Some(()) } else { None }
-}
-
-/// A client that goes on making calls after the command to end, and reads late, gets all answers to the calls before;
-/// none of the later ones is accepted.
-#[test]
-fn a_planned_end_loses_no_answer(rt: HostRuntime) -> Result<(), Fail> {
-    let alloc = rt.alloc();
-    let settings = Settings::new(1, 2).ok_or("settings")?.with_commands();
-    let trial = Trial::with_events(&rt, alloc, settings, Mood::Takes(0), Wanted::All)?;
-    let listener = TcpListener::bind(&rt, "127.0.0.1:0")?;
-    let (outcome, given) = thread::join(
-        &rt,
-        || trial.serve(&rt, alloc, &OpenGate, listener),
-        || call_on_at_the_end(&rt, alloc, &trial),
-    );
-    given.ok_or("an answer is missing")?;
-    let outcome = outcome.ok_or("out of memory")?;
-    assert_eq!(rt; outcome.fault, None);
-    let wanted = "link 0 accepted 8000 served 16000 sent 8000\n";
-    assert_eq!(rt; outcome.told.as_slice(), wanted.as_bytes());
-    assert_eq!(rt; outcome.replayed.as_slice(), wanted.as_bytes());
-    Ok(())
 }

@@ -5,7 +5,7 @@ use std::alloc::{AllocError, Global};
 use std::net::{Net, SocketAddr, TcpStream};
 
 /// Records: a number that leads on, one that leads on to two places in turn, one that is refused, one that passes.
-pub(crate) const RECORDS: &str = "key,100,60
+pub const RECORDS: &str = "key,100,60
 800123456,,1234567,00:00,24:00,1,route,302223344
 800123457,,1234567,00:00,24:00,1,route,302223344,302223355
 800123458,,1234567,00:00,24:00,1,refuse
@@ -43,10 +43,15 @@ pub(crate) fn answer(alloc: Global, identifier: u32) -> Result<String, AllocErro
     format!(in alloc; "641D4904{identifier:08X}6C15A113020101020114300BA009040783100322324304")
 }
 
+/// Reads the answer to the Begin from this identifier. `None`: something else came.
+pub(crate) fn answers(alloc: Global, client: &mut Client, identifier: u32) -> Option<()> {
+    client.expect(alloc, answer(alloc, identifier).ok()?.as_str())
+}
+
 /// Makes a call from this identifier. `None`: something else came than its answer.
 pub(crate) fn calls(alloc: Global, client: &mut Client, identifier: u32) -> Option<()> {
     client.write_text(alloc, begin(alloc, identifier).ok()?.as_str())?;
-    client.expect(alloc, answer(alloc, identifier).ok()?.as_str())
+    answers(alloc, client, identifier)
 }
 
 /// The frame of such a Begin from 2A that names the application context 2A0304.
@@ -188,14 +193,14 @@ pub(crate) fn all_kinds<R: Net<Stream = TcpStream>>(
     rt: &R,
     alloc: Global,
     address: SocketAddr,
-) -> Option<u32> {
+) -> Option<u64> {
     let mut client = Client::connect(rt, address)?;
     let local = open_four(alloc, &mut client)?;
     goes_through_both(alloc, &mut client, local.as_str())?;
     let number = u32::from_str_radix(local.as_str(), 16).ok()?;
     // The second dialogue of its link.
     if number & 0x1FFF_FFFF == 2 {
-        Some(number >> 29)
+        Some(u64::from(number >> 29))
     } else {
         None
     }

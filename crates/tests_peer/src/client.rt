@@ -1,6 +1,9 @@
 //! Clients of a server.
 
-use libc::net::{IPPROTO_TCP, SO_SNDBUF, SOL_SOCKET, TCP_USER_TIMEOUT, getsockopt, setsockopt};
+use libc::net::{
+    IPPROTO_TCP, SHUT_RDWR, SO_SNDBUF, SOL_SOCKET, TCP_USER_TIMEOUT, getsockopt, setsockopt,
+    shutdown,
+};
 use std::alloc::Global;
 use std::io::{Read, Write};
 use std::net::{Net, Shutdown, SocketAddr, TcpListener, TcpStream};
@@ -38,7 +41,7 @@ fn value(number: i32) -> [u8; 16] {
 
 /// Gives the connections that a listener accepts from now on a small buffer for what is written, so that some 4,500
 /// answers that aren't read block it: without that it is 80,000 to 120,000.
-pub(crate) fn shrink_buffers(listener: &TcpListener) {
+pub fn shrink_buffers(listener: &TcpListener) {
     // SAFETY: it is an option of its level whose value is a number.
     unsafe {
         setsockopt(
@@ -62,7 +65,7 @@ fn has_small_buffer(fd: i32) -> bool {
 }
 
 /// The system gives up each connection with a small buffer once its client had no room for half a second.
-pub(crate) fn shorten_limits() {
+pub fn shorten_limits() {
     for fd in 0..MOST_DESCRIPTORS {
         if has_small_buffer(fd) {
             // SAFETY: it is an option of its level whose value is a number.
@@ -79,11 +82,13 @@ pub(crate) fn shorten_limits() {
     }
 }
 
+/// Ends a listener: it accepts no connection any more.
+pub fn stop_listening(listener: &TcpListener) {
+    shutdown(listener.as_raw_fd(), SHUT_RDWR);
+}
+
 /// Whether connections to this address are refused within a second.
-pub(crate) fn is_refused<R: Net<Stream = TcpStream> + Wait + Clock>(
-    rt: &R,
-    address: SocketAddr,
-) -> bool {
+pub fn is_refused<R: Net<Stream = TcpStream> + Wait + Clock>(rt: &R, address: SocketAddr) -> bool {
     for _ in 0..LOOKS {
         if TcpStream::connect(rt, address).is_err() {
             return true;
@@ -95,16 +100,13 @@ pub(crate) fn is_refused<R: Net<Stream = TcpStream> + Wait + Clock>(
 
 /// A connection to a server.
 #[derive(Drop)]
-pub(crate) struct Client {
+pub struct Client {
     stream: TcpStream,
 }
 
 impl Client {
     /// Connects to this address.
-    pub(crate) fn connect<R: Net<Stream = TcpStream>>(
-        rt: &R,
-        address: SocketAddr,
-    ) -> Option<Client> {
+    pub fn connect<R: Net<Stream = TcpStream>>(rt: &R, address: SocketAddr) -> Option<Client> {
         let stream = TcpStream::connect(rt, address).ok()?;
         let most = Some(Duration::from_secs(MOST_SECONDS));
         stream.set_read_timeout(most).ok()?;
@@ -112,18 +114,18 @@ impl Client {
     }
 
     /// Writes octets.
-    pub(crate) fn write(&mut self, octets: &[u8]) -> Option<()> {
+    pub fn write(&mut self, octets: &[u8]) -> Option<()> {
         self.stream.write_all(octets).ok()
     }
 
     /// Writes the octets of a hexadecimal text.
-    pub(crate) fn write_text(&mut self, alloc: Global, text: &str) -> Option<()> {
+    pub fn write_text(&mut self, alloc: Global, text: &str) -> Option<()> {
         let octets = hex::decode(alloc, text).ok()?;
         self.write(octets.as_slice())
     }
 
     /// Closes its sending side.
-    pub(crate) fn end_input(&self) -> Option<()> {
+    pub fn end_input(&self) -> Option<()> {
         self.stream.shutdown(Shutdown::Write).ok()
     }
 
@@ -136,14 +138,14 @@ impl Client {
     }
 
     /// Reads the next frame, and gives the hexadecimal text of its message.
-    pub(crate) fn message(&mut self, alloc: Global) -> Option<String> {
+    pub fn message(&mut self, alloc: Global) -> Option<String> {
         let head = self.read_text(alloc, 4)?;
         let count = u32::from_str_radix(head.as_str(), 16).ok()?;
         self.read_text(alloc, usize::try_from(count).ok()?)
     }
 
     /// Reads the next frame. `None`: none comes, or one with another message.
-    pub(crate) fn expect(&mut self, alloc: Global, wanted: &str) -> Option<()> {
+    pub fn expect(&mut self, alloc: Global, wanted: &str) -> Option<()> {
         if self.message(alloc)?.as_str() == wanted {
             Some(())
         } else {
@@ -152,7 +154,7 @@ impl Client {
     }
 
     /// Reads this number of frames. `None`: fewer come, or one with another message.
-    pub(crate) fn messages(&mut self, alloc: Global, count: u32, wanted: &str) -> Option<()> {
+    pub fn messages(&mut self, alloc: Global, count: u32, wanted: &str) -> Option<()> {
         for _ in 0..count {
             self.expect(alloc, wanted)?;
         }
@@ -160,7 +162,7 @@ impl Client {
     }
 
     /// Reads on, and returns whether the server ended the connection before anything more came.
-    pub(crate) fn is_at_end(&mut self) -> bool {
+    pub fn is_at_end(&mut self) -> bool {
         let mut octet = [0u8; 1];
         match self.stream.read(&mut octet) {
             Ok(count) => count == 0,

@@ -11,24 +11,24 @@ use std::{io, thread};
 const REST_MILLISECONDS: u64 = 10;
 
 /// Commands that were given and aren't read yet. `None`: no more come.
-pub(crate) type Given = Arc<Mutex<Option<Vec<u8>>>>;
+pub type Given = Arc<Mutex<Option<Vec<u8>>>>;
 
 /// No commands yet. More may come if this says so.
-pub(crate) fn given(alloc: Global, is_open: bool) -> Result<Given, AllocError> {
+pub fn given(alloc: Global, is_open: bool) -> Result<Given, AllocError> {
     let commands = if is_open { Some(Vec::new(alloc)) } else { None };
     Ok(Arc::new(alloc, Mutex::new(commands))?)
 }
 
 /// A reader of such commands. It waits for the next one, as a reader of a FIFO does.
 #[derive(Drop)]
-pub(crate) struct Typed<R: Wait + Clock + Copy> {
+pub struct Typed<R: Wait + Clock + Copy> {
     rt: R,
     given: Given,
 }
 
 impl<R: Wait + Clock + Copy> Typed<R> {
     /// A reader of what is given here.
-    pub(crate) fn new(rt: &R, given: &Given) -> Result<Typed<R>, AllocError> {
+    pub fn new(rt: &R, given: &Given) -> Result<Typed<R>, AllocError> {
         Ok(Typed {
             rt: *rt,
             given: Arc::try_clone(given)?,

@@ -10,8 +10,8 @@ use std::time::Duration;
 use std::{io, thread};
 
 /// How a device takes octets.
-#[derive(Clone, Copy, PartialEq, Eq)]
-pub(crate) enum Mood {
+#[derive(Clone, Copy)]
+pub enum Mood {
     /// Each write takes this number of milliseconds.
     Takes(u64),
     /// This number of octets are taken, and then each write fails.
@@ -22,7 +22,7 @@ pub(crate) enum Mood {
 
 /// A device over memory whose mood another thread may change.
 #[derive(Drop)]
-pub(crate) struct Device<R: Wait + Clock + Copy> {
+pub struct Device<R: Wait + Clock + Copy> {
     rt: R,
     text: Arc<Mutex<Vec<u8>>>,
     mood: Arc<Mutex<Mood>>,
@@ -30,7 +30,7 @@ pub(crate) struct Device<R: Wait + Clock + Copy> {
 
 impl<R: Wait + Clock + Copy> Device<R> {
     /// A device that writes to this text, in this mood.
-    pub(crate) fn new(
+    pub fn new(
         rt: &R,
         text: &Arc<Mutex<Vec<u8>>>,
         mood: &Arc<Mutex<Mood>>,
