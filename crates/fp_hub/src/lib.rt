@@ -53,7 +53,7 @@
 //! returned. The book's totals are never less than a seat's amounts. A split moves no amount, a join adds both. So
 //! [`finish`] returns the totals of the book, and these are the sums of the threads' counts. No contract says that a
 //! call of a [`Hub`] makes the book's call, since no clause names the changes of another thread: the tests in
-//! `tests_hub` show it.
+//! `tests_hub` and `tests_walks` show it.
 #![tactic(auto)]
 
 mod clocked;

@@ -85,8 +85,8 @@
 //!   only if the room that there was before the call is full after it ([`Node::EVENTS`],
 //!   `specs/Counting.antt`).
 //!
-//! No contract speaks of the sockets. The tests of `tests_serve` show how they are used, and
-//! `tools/sccp` does so against a transfer point.
+//! No contract speaks of the sockets. The case `node` of `tools/attacks` shows how they are used,
+//! and `tools/sccp` does so against a transfer point.
 #![tactic(auto)]
 
 mod arrival;
