@@ -65,12 +65,15 @@ pub struct Played {
 }
 
 impl Act<'_> {
-    /// Prepares the listener of the run, before it begins.
-    pub fn prepare(self, listener: &TcpListener) {
+    /// Prepares the listener of the run, before it begins. `false`: the system refused.
+    pub fn prepare(self, listener: &TcpListener) -> bool {
         match self {
-            Act::End(_) => shrink_buffers(listener),
+            Act::End(_) => {
+                shrink_buffers(listener);
+                true
+            }
             Act::NoListener => stop_listening(listener),
-            _ => {}
+            _ => true,
         }
     }
 
@@ -139,7 +142,8 @@ impl Act<'_> {
             Act::TwoCalls(is_answered) => two_calls(rt, alloc, streams, is_answered)?,
             Act::FillDialogue => fill_dialogue(rt, alloc, streams)?,
             Act::Quit(door) => call_and_quit(rt, alloc, streams, door)?,
-            Act::NoListener | Act::End(_) | Act::AllKinds | Act::ManyCalls => {}
+            Act::NoListener => {}
+            Act::End(_) | Act::AllKinds | Act::ManyCalls => return None,
         }
         Some(0)
     }

@@ -82,9 +82,9 @@ pub fn shorten_limits() {
     }
 }
 
-/// Ends a listener: it accepts no connection any more.
-pub fn stop_listening(listener: &TcpListener) {
-    shutdown(listener.as_raw_fd(), SHUT_RDWR);
+/// Ends a listener: it accepts no connection any more. `false`: it goes on.
+pub fn stop_listening(listener: &TcpListener) -> bool {
+    shutdown(listener.as_raw_fd(), SHUT_RDWR) == 0
 }
 
 /// Whether connections to this address are refused within a second.

@@ -1,6 +1,7 @@
 //! Clients of a run of `fp_serve`, for its tests: what they say and do, and what a run shares with them.
 //!
-//! Only `std` is needed here, so each function is proved over few libraries. `tests_serve` has the runs and the tests.
+//! Only `std`, `hex` and `libc` are needed here, so each function is proved over few libraries. `tests_serve` has the
+//! runs and the tests.
 //!
 //! * [`streams`]: the output, the log, the errors and the commands of a run, in memory. [`memory`] has the writer of
 //!   the output, [`device`] that of the log, which may be slow, fail or hang, and [`typed`] the reader of commands.

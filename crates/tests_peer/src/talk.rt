@@ -187,8 +187,8 @@ fn goes_through_both(alloc: Global, client: &mut Client, local: &str) -> Option<
     client.expect(alloc, RELEASED)
 }
 
-/// Makes a call of each kind on a connection of its own, of which one goes on through both of its places. Gives the link
-/// that the dialogues were opened on. `None`: something else came than has to.
+/// Makes a call of each kind on a connection of its own, of which one goes on through both of its places. Gives the
+/// link that the dialogues were opened on. `None`: something else came than has to.
 pub(crate) fn all_kinds<R: Net<Stream = TcpStream>>(
     rt: &R,
     alloc: Global,

@@ -21,8 +21,9 @@ fn a_log_that_hangs_holds_nobody_up(rt: HostRuntime) -> Result<(), Fail> {
     let fault = Some(ServeFault::UnwrittenLog);
     outcome.want_told(fault, "link 0 accepted 200 served 400 sent 200\n")?;
     let seconds = outcome.seconds_after;
+    // Its client looks at the clock after its end, on a busy machine some time later.
     assert!(rt;
-        (5..30).contains(&seconds),
+        (4..30).contains(&seconds),
         "the run ended after {seconds} seconds"
     );
     let events = str::from_utf8(outcome.errors.as_slice())?;

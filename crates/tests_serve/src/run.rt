@@ -169,7 +169,9 @@ where
     G: Gate + Sync,
 {
     let listener = TcpListener::bind(rt, "127.0.0.1:0")?;
-    plan.act.prepare(&listener);
+    if !plan.act.prepare(&listener) {
+        return Err(Fail::new("the listener goes on"));
+    }
     let streams = Streams::new(alloc, plan.mood, plan.settings.has_commands)?;
     let events = events(rt, alloc, plan.wanted, &streams)?;
     let (result, played) = thread::join(
