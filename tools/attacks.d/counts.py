@@ -10,7 +10,7 @@ from tcap import call, connected
 
 def events(folder):
     """With --events a line says which program runs, which records were read, which link came up, and why it went down. A
-    peer that closes its sending side gets its answer, and those that are inside a frame are reported, too."""
+    peer that closes its sending side gets its answer, and one that closes inside a frame is reported, too."""
     with Run(folder, "--links", "4", "--events") as run:
         peers = [run.peer() for _ in range(4)]
         version = subprocess.run([GIVEN.program, "--version"], capture_output=True, text=True).stdout.strip()

@@ -2,6 +2,7 @@
 import contextlib
 import fcntl
 import os
+import re
 import select
 import subprocess
 import sys
@@ -81,7 +82,7 @@ def links_and_quit(folder):
         expect(until(is_told, 10), f"it says of its links: {run.printed()[-400:]}")
         run.command("quit now")
         run.command("quit")
-        expect(opened.ends(5) and cut.ends(5), "a link goes on")
+        expect(opened.ends_silently(5) and cut.ends_silently(5), "a link goes on, or more came on it")
         run.expect_end(5, errors="command: unknown\n")
         reports = "".join(f"link {link} accepted {count} served {2 * count} sent {count}\n"
                           for link, count in enumerate([1, 0, 1, 0]))
@@ -98,11 +99,14 @@ def failed_output(folder):
     with errors.open("w") as file, subprocess.Popen(words, stdin=subprocess.PIPE, stdout=subprocess.PIPE, stderr=file,
                                                     bufsize=0) as process:
         try:
-            peer = Peer(("127.0.0.1", int(process.stdout.readline().rsplit(b":")[-1])))
+            said = process.stdout.readline() if select.select([process.stdout], [], [], 10 * GIVEN.patience)[0] else b""
+            listening = re.fullmatch(rb"listening 127\.0\.0\.1:(\d+)\n", said)
+            expect(listening, f"the program says '{said.decode()}'")
+            peer = Peer(("127.0.0.1", int(listening[1])))
             peer.call(1)
             process.stdout.close()
             process.stdin.write(3 * b"reload\n")
-            expect(peer.ends(5), "the link goes on though standard output can't be written")
+            expect(peer.ends_silently(5), "the link goes on, or more came, though standard output can't be written")
             found = process.wait(10 * GIVEN.patience), errors.read_text()
             expect(found == (1, "output: cannot be written\n"), f"the run ended with {found}")
         finally:

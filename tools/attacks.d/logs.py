@@ -136,8 +136,8 @@ def two_runs(folder):
                 expect(second.output.read_text() == "", f"the second one printed {second.output.read_text()}")
             peer.calls(count)
             run.finish(peer)
-    log, reports = run.log.read_text(), run.reports()
-    expect(log == "fplog 4 1\n0 N\n" and reports == ["link 0 accepted 0 served 0 sent 0"], f"'{log}', {reports}")
+    log, printed = run.log.read_text(), run.printed()
+    expect((log, printed) == ("fplog 4 1\n0 N\n", "link 0 accepted 0 served 0 sent 0\n"), f"'{log}', '{printed}'")
 
 
 def records_as_log(folder):

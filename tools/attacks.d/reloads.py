@@ -4,9 +4,8 @@ import subprocess
 import time
 
 from client import expect, frames
-from setting import FIRST, GIVEN, RECORDS, SECOND, TWO_PLACES, Run, connection, reported, until
+from setting import BAD_RECORDS, FIRST, GIVEN, RECORDS, SECOND, TWO_PLACES, Run, connection, reported, until
 from tcap import call, connected
-from words import BAD_RECORDS
 
 
 def many_rules(count, place):

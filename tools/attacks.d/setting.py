@@ -18,6 +18,8 @@ RECORDS = """key,100,60
 800123456,,1234567,00:00,24:00,1,route,302223344
 800123457,,1234567,00:00,24:00,1,route,302223344,302223355
 """
+# Records of a number with a day that is there twice.
+BAD_RECORDS = "key,100,60\n800123456,,1224567,00:00,24:00,1,route,302223344\n"
 # A number with two destinations, these, and the second one in a Connect.
 TWO_PLACES, FIRST, SECOND = "800123457", "302223344", "302223355"
 SECOND_PLACE = number(SECOND)

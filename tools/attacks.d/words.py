@@ -3,11 +3,9 @@ import socket
 import subprocess
 
 from client import expect, frames
-from setting import GIVEN, RECORDS, Run
+from setting import BAD_RECORDS, FIRST, GIVEN, RECORDS, TWO_PLACES, Run, connection
 from tcap import call, connected
 
-# Records of a number with a day that is there twice.
-BAD_RECORDS = "key,100,60\n800123456,,1224567,00:00,24:00,1,route,302223344\n"
 # Words after `serve`, each with all faults that come after the one that is reported. At USED connections are awaited
 # already.
 FAULTS = """
@@ -66,19 +64,23 @@ def links_of_words(folder):
     """The links that the words ask for are served and reported, one if they ask for none, with their application context;
     the log of an earlier run gives way to theirs, whose replay reports the same."""
     context = ["--contexts", "2A0304"]
-    plans = [(["--links", "2", "--workers", "1", *context], context, 2, WITH_CONTEXT, CONTEXT_ACCEPTED),
-             ([], [], 1, call(1), connected(1))]
-    for words, again, count, message, answer in plans:
+    tagged = [connection(1, local, 1, FIRST) for local in (0x600A0001, 0x800A0001)]
+    plans = [(["--links", "2", "--workers", "1", *context], context, "4 2", WITH_CONTEXT, 2 * [CONTEXT_ACCEPTED]),
+             ([], [], "4 1", call(1), [connected(1)]),
+             (["--links", "2", "--first-link", "3", "--tag", "5"], [], "5 5 5", call(1, TWO_PLACES), tagged)]
+    for words, again, head, message, answers in plans:
         log = folder / "old.log"
         log.write_text(OLD_LOG)
         with Run(folder, *words, log=log) as run:
-            peers = [run.peer() for _ in range(count)]
-            for peer in peers:
+            peers = [run.peer() for _ in answers]
+            for peer, answer in zip(peers, answers):
                 came = peer.play(frames([message]), 1)
                 expect(came == [answer], f"{' '.join(words)}: a call got '{b''.join(came).hex()}'")
             run.later = again
             run.finish(*peers)
-            reports = "".join(f"link {link} accepted 1 served 2 sent 1\n" for link in range(count))
+            counts = [0] * (int(head.split()[1]) - len(peers)) + [1] * len(peers)
+            reports = "".join(f"link {link} accepted {count} served {2 * count} sent {count}\n"
+                              for link, count in enumerate(counts))
             expect(run.printed() == reports, f"{' '.join(words)}: the run printed {run.printed()}")
-            expect(log.read_text().startswith(f"fplog 4 {count}\n"), f"the head is '{log.read_text()[:12]}'")
+            expect(log.read_text().startswith(f"fplog {head}\n"), f"the head is '{log.read_text()[:12]}'")
             expect(run.replay().stdout == reports and run.replay().stderr == "", f"the log replays to {run.replay()}")

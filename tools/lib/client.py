@@ -150,6 +150,11 @@ class Peer(Connection):
             self.play(wanted=1, idle=0.02)
         return self.has_ended
 
+    def ends_silently(self, seconds):
+        """Whether the program ends the link within this time, and sends nothing before."""
+        came = self.play(wanted=1, idle=seconds)
+        return self.has_ended and not came and not self.rest
+
     def call(self, identifier, most=5):
         """Makes a call, which has to be answered within this time; gives how many seconds it took."""
         began = time.monotonic()

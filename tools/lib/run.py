@@ -172,5 +172,5 @@ class Run:
             peer.close()
         self.expect_end(10, errors=errors)
         replay = self.replay()
-        client.expect(replay.returncode == 0 and replay.stdout.splitlines() == self.reports(),
+        client.expect(replay.returncode == 0 and replay.stdout.splitlines() == self.reports() and not replay.stderr,
                       f"the run printed {self.reports()}, its log replays to '{replay.stdout + replay.stderr}'")

@@ -1,4 +1,4 @@
-"""The messages that tools/sccp sends and reads: IPA with its CCM, SCCP (Q.713), M3UA (RFC 4666).
+"""The messages that tools/sccp, and a case of tools/attacks, send and read: IPA with its CCM, SCCP (Q.713), M3UA (RFC 4666).
 
 A point code is a number here, an address the octets of a called or calling party address without their length."""
 import socket
