@@ -71,13 +71,13 @@ fn sleep_until<R: Wait + Clock, A: Ledger, B: Ledger, C: Ledger>(
 ) -> bool {
     match name {
         "room" | "room-later" => await_room(rt, hub, came),
-        "room-within" => has_room(rt, hub, came, most),
+        "room-within" => came.is_some() && has_room(rt, hub, came, most),
         "quiet" => {
             // (or until it looked again)
             let _is_quiet = hub.await_quiet(rt, Duration::from_millis(LATE));
             true
         }
-        "parcel" => !unsend(rt, hub, hub.await_parcel(rt)).is_empty(),
+        "parcel" => unsend(rt, hub, hub.await_parcel(rt)) == "unsent",
         _ => false,
     }
 }
