@@ -1,13 +1,13 @@
 //! One thread makes the calls of a hub, one after the other, as the lines of a script say.
 //!
-//! A line is `CALL => WORDS`: a call of the hub, and the words that it must answer; a line without ` => ` has a call that
-//! answers nothing. The first line whose words are others ends the walk, and the test names the script and this line.
-//! `SLEEP | CALL; CALL` lets another thread sleep for something (`sleeping`), makes these calls 50 milliseconds later,
-//! and answers how the sleep ended, and then the words of the calls. A line that begins with `+ ` is played only if
-//! foreign turns and parcels are brought, one with `- ` only if they aren't, and one with `# ` never.
+//! A line is `CALL => WORDS`: a call of the hub, and the words that it must answer; a line without ` => ` has a call
+//! that answers nothing. The first line whose words are others ends the walk, and the test names the script and this
+//! line. `SLEEP | CALL; CALL` lets another thread sleep for something (`sleeping`), makes these calls 50 milliseconds
+//! later, and answers how the sleep ended, and then the words of the calls. A line that begins with `+ ` is played only
+//! if foreign turns and parcels are brought, one with `- ` only if they aren't, and one with `# ` never.
 //!
-//! A `MESSAGE` is the identifier of a Begin with InitialDP, in hexadecimal digits, or a name of `messages`. Whatever else
-//! a call names is a number. What a call hands out stays at hand for the calls after it (`held`).
+//! A `MESSAGE` is the identifier of a Begin with InitialDP, in hexadecimal digits, or a name of `messages`. Whatever
+//! else a call names is a number. What a call hands out stays at hand for the calls after it (`held`).
 //!
 //! | Module | The calls of |
 //! |---|---|
@@ -20,8 +20,8 @@
 //! | `foreign` | turns and parcels of another hub: `foreign-turns`, `mix`, `foreign-parcels`, `foreign-in-hold` |
 //! | `caller` | several calls that are the same: `posts`, `offers`, `adds`, `sends`, `serve-all` and others |
 //!
-//! Some calls have several steps (`caller`), which the modules list, too; a script doesn't call a step. All calls for turns
-//! but `share`, `serve` and `mix` need that no turn is at hand.
+//! Some calls have several steps (`caller`), which the modules list, too; a script doesn't call a step. Calls that take
+//! a turn and give it back, as `turn`, `put-back`, `give-closed` and those `in-share`, need that no turn is at hand.
 
 ghost use Rattle.fp_hub.specs.Shares.{AreBlanks};
 
@@ -78,8 +78,8 @@ const WALK: Walk = Walk {
     },
 };
 
-/// Makes the calls of a walk with a hub whose ledgers are these, and finishes the link: the counts. The text about a failure
-/// is cleared if each line answers its words. `None`: out of memory.
+/// Makes the calls of a walk with a hub whose ledgers are these, and finishes the link: the counts. The text about a
+/// failure is cleared if each line answers its words. `None`: out of memory.
 fn walk_over<
     R: Threads + Wait + Clock + Sync,
     A: Ledger + Send + Sync,

@@ -5,8 +5,8 @@ use fp_book::Totals;
 use std::test::Fail;
 
 /// A call that is answered; then one that is held until its time is over, and whose Abort can't be sent, which takes
-/// the link down. Then the thread that rests, and how full the log is: 512 lines wake it, with 5,120 the log is filling,
-/// with 7,168 nearly full, with 64 it has some, and with 1,024 it is long.
+/// the link down. Then the thread that rests, and how full the log is: 512 lines wake it, with 5,120 the log is
+/// filling, with 7,168 nearly full, with 64 it has some, and with 1,024 it is long.
 const EACH_CALL: &str = "\
 post 2A => opened
 put-back 0 => back

@@ -76,8 +76,8 @@ fn call_over<R: Wait + Clock, A: Ledger, B: Ledger, C: Ledger>(
     let _totals = finish(hub, seat);
 }
 
-/// Makes these calls of another hub. `LINK IDENTIFIER` are its link, and the identifier of the call that opens its second
-/// dialogue.
+/// Makes these calls of another hub. `LINK IDENTIFIER` are its link, and the identifier of the call that opens its
+/// second dialogue.
 fn call_other<R: Wait + Clock>(rt: &R, of_dialogue: &str, calls: &str, others: &mut Held<'_>) {
     let (link, identifier) = first_word(of_dialogue);
     let other = Other {

@@ -59,8 +59,8 @@ fn make_line<
     seat
 }
 
-/// Plays the lines of a walk. The first one that answers other words ends it, and is put after the text about a failure;
-/// if all answer their words, this text is cleared.
+/// Plays the lines of a walk. The first one that answers other words ends it, and is put after the text about a
+/// failure; if all answer their words, this text is cleared.
 fn play_lines<
     'x,
     R: Threads + Wait + Clock + Sync,

@@ -141,8 +141,8 @@ fn add_begins(
     ""
 }
 
-/// Posts the messages in front of a list: `aborted`, and the sending thread is told, if an Abort of the provider answers
-/// one.
+/// Posts the messages in front of a list: `aborted`, and the sending thread is told, if an Abort of the provider
+/// answers one.
 fn post_front<R: Wait, A: Ledger, B: Ledger, C: Ledger>(
     rt: &R,
     alloc: Global,

@@ -5,8 +5,8 @@ use fp_book::Totals;
 use std::test::Fail;
 
 /// Lists of messages, and in one of them a message that is held back. The turns of five dialogues, in the holds of one
-/// to three workers: the turn of the first dialogue has 49 entries, and follows the turn of the second one. And parcels,
-/// in the end while the link goes down.
+/// to three workers: the turn of the first dialogue has 49 entries, and follows the turn of the second one. And
+/// parcels, in the end while the link goes down.
 const SEVERAL: &str = "\
 adds 70 unidirectional
 front => six

@@ -150,7 +150,8 @@ quiet 0 => quiet
 offer strange => discarded
 ";
 
-/// A thread that sleeps for room for a second at most, and a turn is given meanwhile; and then for a while without room.
+/// A thread that sleeps for room for a second at most, and a turn is given meanwhile; and then for a while without
+/// room.
 const IN_TIME: &str = "\
 offer empty => opened
 turn 0 => silent
