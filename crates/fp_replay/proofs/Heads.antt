@@ -1,8 +1,7 @@
 -- The text of a head, without a tag and with one.
-use Rattle.std.proofs.Common.{◌≡◌, ℕ, ◌<◌, ◌≤◌, ◌^◌, zero, suc, Bool, true, false, cond, eqb, List, ◌∷◌, ◌++◌, codes, decimal, drop, get_or, refl, sym, ap, ◌∙◌, arith, ne_eqb}
+use Rattle.std.proofs.Common.{◌≡◌, ℕ, ◌<◌, zero, suc, Bool, true, false, cond, eqb, List, ◌∷◌, ◌++◌, codes, decimal, drop, get_or, refl, sym, ap, ◌∙◌, arith, ne_eqb}
 use Rattle.std.specs.List.{join_with_byte}
 use Rattle.std.proofs.lemmas.Fmt.{decimal_injective}
-use Rattle.fp_book.specs.declared.line.Line.{Line}
 use Rattle.fp_book.specs.declared.line.Line.TheVariants.{Head}
 use Rattle.fp_replay.specs.Format.{IsLine, head_fields, text_of}
 use Rattle.fp_replay.proofs.Cutting.{one_number}

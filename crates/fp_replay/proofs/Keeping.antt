@@ -9,7 +9,7 @@ pub kept_self : (old : List ℕ) → KeepsFront old old
 kept_self old = take_all (length old) old (omega arith)
 
 -- in two steps
-pub kept_on : (old text new : List ℕ) → KeepsFront old text → KeepsFront text new → KeepsFront old new
+kept_on : (old text new : List ℕ) → KeepsFront old text → KeepsFront text new → KeepsFront old new
 kept_on old text new first second =
     let short : length old ≤ length text = omega (arith, ap length first, length-take (length old) text) in
     sym (take-take (length old) (length text) new short) ∙ ap (take (length old)) second ∙ first
@@ -17,11 +17,6 @@ kept_on old text new first second =
 -- where this is put
 pub kept_by : (old text new more : List ℕ) → KeepsFront old text → new ≡ text ++ more → KeepsFront old new
 kept_by old text new more kept is = kept_on old text new kept (rw is (take_at text more (length text) refl))
-
--- what is kept is kept where memory was wanting
-pub kept_where : {T E : Type 0} (r : Result T E) (old new : List ℕ) → KeepsFront old new → OnErr r (KeepsFront old new)
-kept_where (Ok x) old new kept = tt
-kept_where (Err e) old new kept = kept
 
 -- in a last step that may have failed
 pub kept_at : {T E : Type 0} (r : Result T E) (old text new : List ℕ) → KeepsFront old text → OnErr r (KeepsFront text new) → OnErr r (KeepsFront old new)

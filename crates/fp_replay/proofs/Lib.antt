@@ -3,7 +3,7 @@ pub mod Heads
 pub mod Hexadecimal
 pub mod Keeping
 pub mod Letters
-mod LineTexts
+pub mod LineTexts
 mod OfRuns
 mod OneLog
 pub mod Lines

@@ -112,7 +112,7 @@ joined_short (field ∷ []) = omega arith
 joined_short (field ∷ (next ∷ fields)) =
     omega (arith, length-append field (32 ∷ join_with_byte 32 (next ∷ fields)), joined_short (next ∷ fields))
 
-decimal_short : (n : ℕ) → n < 2 ^ 64 → length (decimal n) ≤ 20
+pub decimal_short : (n : ℕ) → n < 2 ^ 64 → length (decimal n) ≤ 20
 decimal_short n fits = length-decimal-le 20 n (omega arith) (omega (arith, fits)) fits
 
 local_length : (local : ℕ) → length (identifier_text local) ≡ 8

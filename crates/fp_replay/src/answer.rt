@@ -1,39 +1,39 @@
 //! The outcome of a message, and of requests.
 
-ghost use Rattle.std.specs.Prelude.{◌≡◌, ◌++◌, decimal, IfSome, OnErr, OnOk};
+ghost use Rattle.std.specs.Prelude.{◌≡◌, decimal, IfSome};
 ghost use Rattle.fp_book.specs.declared.answers.Given.{Given};
 ghost use Rattle.fp_book.specs.declared.answers.Posted.{Posted};
 ghost use Rattle.fp_q773.specs.ProviderAbort.{cause_code};
 ghost use Rattle.fp_q773.specs.declared.provider_abort.AbortCause.{AbortCause};
 ghost use Rattle.fp_replay.specs.Format.{IsCounted, IsInRange, given_text, posted_text};
-ghost use Rattle.fp_replay.specs.proof_only.Writing.{KeepsFront};
+ghost use Rattle.fp_replay.specs.proof_only.Writing.{HasRoom, Puts};
 
-use crate::number::{number_in, short_number_in, write_number};
-use crate::octets::{identifier_in, write_identifier};
+use crate::line_part::LinePart;
+use crate::number::{number_in, short_number_in};
+use crate::octets::{identifier_in, put_identifier};
 use fp_book::{Given, Posted};
 use fp_q773::AbortCause;
-use std::alloc::AllocError;
 
-/// Adds the outcome of a message to a text.
-pub(crate) fn write_posted(answer: Posted, text: &mut Vec<u8>) -> Result<(), AllocError>
-    ensures written { OnOk result (text.new.items ≡ text.old.items ++ posted_text answer) }
-    ensures front { OnErr result (KeepsFront text.old.items text.new.items) }
+/// Puts the outcome of a message at the front of a part of a line.
+pub(crate) fn put_posted(answer: Posted, part: &mut LinePart)
+    requires { HasRoom 21 part.old }
+    ensures { Puts 21 (posted_text answer) part.old part.new }
 {
     match answer {
         Posted::Opened(local) => {
-            text.push(b'O')?;
-            write_identifier(local, text)
+            put_identifier(local, part);
+            part.put(b'O');
         }
         Posted::Accepted(entries) => {
-            text.push(b'A')?;
-            write_number(u64::from(entries), text)
+            part.put_number(u64::from(entries));
+            part.put(b'A');
         }
         Posted::Aborted(cause) => {
-            text.push(b'X')?;
-            write_number(u64::from(cause.code()), text)
+            part.put_number(u64::from(cause.code()));
+            part.put(b'X');
         }
-        Posted::Ended => Ok(text.push(b'E')?),
-        Posted::Discarded => Ok(text.push(b'D')?),
+        Posted::Ended => part.put(b'E'),
+        Posted::Discarded => part.put(b'D'),
     }
 }
 
@@ -66,21 +66,21 @@ pub(crate) fn posted_in(field: &[u8]) -> Option<Posted>
     }
 }
 
-/// Adds the outcome of requests to a text.
-pub(crate) fn write_given(given: Given, text: &mut Vec<u8>) -> Result<(), AllocError>
-    ensures written { OnOk result (text.new.items ≡ text.old.items ++ given_text given) }
-    ensures front { OnErr result (KeepsFront text.old.items text.new.items) }
+/// Puts the outcome of requests at the front of a part of a line.
+pub(crate) fn put_given(given: Given, part: &mut LinePart)
+    requires { HasRoom 21 part.old }
+    ensures { Puts 21 (given_text given) part.old part.new }
 {
     match given {
         Given::Queued(count) => {
-            text.push(b'Q')?;
-            write_number(u64::from(count), text)
+            part.put_number(u64::from(count));
+            part.put(b'Q');
         }
         Given::Dropped(count) => {
-            text.push(b'D')?;
-            write_number(u64::from(count), text)
+            part.put_number(u64::from(count));
+            part.put(b'D');
         }
-        Given::Silent => Ok(text.push(b'S')?),
+        Given::Silent => part.put(b'S'),
     }
 }
 

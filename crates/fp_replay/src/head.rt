@@ -1,31 +1,32 @@
 //! The head of a log, written and read.
 
-ghost use Rattle.std.specs.Prelude.{◌≡◌, ◌∷◌, ◌++◌, ◌≤◌, ℕ, codes, decimal, IfOk, IfSome, OnErr, OnOk};
+ghost use Rattle.std.specs.Prelude.{◌≡◌, ◌∷◌, ◌++◌, ◌≤◌, ℕ, codes, decimal, IfOk, IfSome};
 ghost use Rattle.fp_book.specs.declared.line.Line.{Line};
 ghost use Rattle.fp_book.specs.declared.line.Line.TheVariants as lines;
 ghost use Rattle.fp_replay.specs.Format.{IsLine, text_of};
-ghost use Rattle.fp_replay.specs.proof_only.Writing.{KeepsFront};
+ghost use Rattle.fp_replay.specs.proof_only.Writing.{HasRoom, Puts};
 ghost use Rattle.fp_tids.specs.Identifiers.{last_tag};
 
 use crate::LineFault;
 use crate::fields::{cut, is_text};
-use crate::number::{positive_number_in, write_field, write_number};
+use crate::line_part::LinePart;
+use crate::number::positive_number_in;
 use fp_book::Line;
 use fp_tids::LocalIds;
-use std::alloc::AllocError;
 
-/// Adds the head of a log to a text: how many links there are, and the tag of the run, if it has one.
-pub(crate) fn write_head(links: u8, tag: u16, text: &mut Vec<u8>) -> Result<(), AllocError>
-    ensures written { OnOk result (text.new.items ≡ text.old.items ++ text_of (lines.Head links tag)) }
-    ensures front { OnErr result (KeepsFront text.old.items text.new.items) }
+/// Puts the head of a log at the front of a part of a line: how many links there are, and the tag of the run, if it has one.
+pub(crate) fn put_head(links: u8, tag: u16, part: &mut LinePart)
+    requires { HasRoom 49 part.old }
+    ensures { Puts 49 (text_of (lines.Head links tag)) part.old part.new }
 {
     if tag == 0 {
-        text.extend_from_slice(b"fplog 4 ")?;
-        return write_number(u64::from(links), text);
+        part.put_number(u64::from(links));
+        part.put_eight(b"fplog 4 ");
+        return;
     }
-    text.extend_from_slice(b"fplog 5 ")?;
-    write_number(u64::from(links), text)?;
-    write_field(u64::from(tag), text)
+    part.put_field(u64::from(tag));
+    part.put_number(u64::from(links));
+    part.put_eight(b"fplog 5 ");
 }
 
 /// The number of links, 1 to 8, in a field.

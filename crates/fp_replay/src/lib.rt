@@ -17,10 +17,11 @@
 //! |---|---|
 //! | `line.rt` | a line: the head, or a link and its step |
 //! | `head.rt` | the head: its version, the number of links, and the tag of the run |
-//! | `step.rt` | the letter of a step |
-//! | `posting.rt`, `tick.rt`, `turn.rt`, `parcel.rt` | the fields after the letters |
-//! | `number.rt`, `octets.rt`, `answer.rt` | the fields themselves |
-//! | `fields.rt` | where a field ends |
+//! | `step.rt` | the letter of a step; writes its whole line |
+//! | `posting.rt`, `tick.rt`, `turn.rt`, `parcel.rt` | the fields after the letters; `posting.rt` writes whole lines |
+//! | `octets.rt`, `answer.rt` | fields of octets and of outcomes |
+//! | `line_part.rt` | writes numbers, in a line or a part of one that grows at its front |
+//! | `number.rt`, `fields.rt` | read numbers, and where a field ends |
 //!
 //! | File | In a replay |
 //! |---|---|
@@ -48,6 +49,7 @@ mod fields;
 mod head;
 mod laws;
 mod line;
+mod line_part;
 mod links;
 mod logged;
 mod number;

@@ -9,40 +9,27 @@ ghost use Rattle.fp_replay.specs.declared.fault.LineFault.TheVariants.{Memory};
 
 use crate::LineFault;
 use crate::fields::{cut, is_text};
-use crate::head::{head_in, write_head};
-use crate::number::{number_in, write_number};
+use crate::head::{head_in, put_head};
+use crate::line_part::LinePart;
+use crate::number::number_in;
 use crate::step::{step_in, write_step};
 use fp_book::{Line, LoggedStep};
 use std::alloc::{AllocError, Global};
-
-/// Adds the text of a step of this link to a text, without a line feed.
-fn write_step_text(link: u8, step: &LoggedStep, text: &mut Vec<u8>) -> Result<(), AllocError>
-    ensures written { OnOk result (text.new.items ≡ text.old.items ++ text_of (Step link step.now)) }
-    ensures front { OnErr result (KeepsFront text.old.items text.new.items) }
-{
-    write_number(u64::from(link), text)?;
-    text.push(b' ')?;
-    write_step(step, text)
-}
-
-/// Adds the text of a line to a text, without a line feed.
-fn write_text(line: &Line, text: &mut Vec<u8>) -> Result<(), AllocError>
-    ensures written { OnOk result (text.new.items ≡ text.old.items ++ text_of line.now) }
-    ensures front { OnErr result (KeepsFront text.old.items text.new.items) }
-{
-    match line {
-        Line::Head { links, tag } => write_head(*links, *tag, text),
-        Line::Step { link, step } => write_step_text(*link, step, text),
-    }
-}
 
 /// Adds the text of a line and a line feed to a text.
 fn write_ended(line: &Line, text: &mut Vec<u8>) -> Result<(), AllocError>
     ensures written { OnOk result (text.new.items ≡ text.old.items ++ text_of line.now ++ 10 ∷ []) }
     ensures front { OnErr result (KeepsFront text.old.items text.new.items) }
 {
-    write_text(line, text)?;
-    Ok(text.push(b'\n')?)
+    match line {
+        Line::Head { links, tag } => {
+            let mut part = LinePart::new();
+            part.put(b'\n');
+            put_head(*links, *tag, &mut part);
+            part.add_to(text)
+        }
+        Line::Step { link, step } => write_step(*link, step, text),
+    }
 }
 
 /// Adds a line to a text: its own text, and a line feed. If memory runs out, the text is unchanged.
@@ -61,22 +48,13 @@ pub fn write_line(line: &Line, text: &mut Vec<u8>) -> Result<(), AllocError>
     written
 }
 
-/// Adds the text of a step of this link and a line feed to a text.
-fn write_ended_step(link: u8, step: &LoggedStep, text: &mut Vec<u8>) -> Result<(), AllocError>
-    ensures written { OnOk result (text.new.items ≡ text.old.items ++ text_of (Step link step.now) ++ 10 ∷ []) }
-    ensures front { OnErr result (KeepsFront text.old.items text.new.items) }
-{
-    write_step_text(link, step, text)?;
-    Ok(text.push(b'\n')?)
-}
-
 /// Adds the line of a step of this link to a text, as [`write_line`]. If memory runs out, the text is unchanged.
 pub fn write_step_line(link: u8, step: &LoggedStep, text: &mut Vec<u8>) -> Result<(), AllocError>
     ensures written { OnOk result (text.new.items ≡ text.old.items ++ text_of (Step link step.now) ++ 10 ∷ []) }
     ensures unchanged { OnErr result (text.new.items ≡ text.old.items) }
 {
     let before = text.len();
-    let written = write_ended_step(link, step, text);
+    let written = write_step(link, step, text);
     if written.is_err() {
         text.truncate(before);
     }

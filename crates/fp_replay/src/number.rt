@@ -1,45 +1,11 @@
-//! Numbers, moments and places of tables: decimal, without leading zeros.
+//! Numbers, moments and places of tables, read: decimal, without leading zeros.
 
-ghost use Rattle.std.specs.Prelude.{◌≡◌, ◌∷◌, ◌++◌, ◌<◌, ◌≤◌, ◌^◌, ℕ, decimal, IfSome, OnErr, OnOk};
+ghost use Rattle.std.specs.Prelude.{◌≡◌, ◌<◌, ◌≤◌, ◌^◌, ℕ, decimal, IfSome};
 ghost use Rattle.fp_digits.specs.declared.moment.TheConstants.Moment.{END};
 ghost use Rattle.fp_steps.specs.Places.{greatest_place};
-ghost use Rattle.fp_replay.specs.proof_only.Writing.{KeepsFront};
 
 use fp_digits::Moment;
 use itoa::Buffer;
-use std::alloc::AllocError;
-
-/// Adds a number of two digits or more to a text.
-#[inline(never)]
-fn write_long_number(number: u64, text: &mut Vec<u8>) -> Result<(), AllocError>
-    ensures written { OnOk result (text.new.items ≡ text.old.items ++ decimal number) }
-    ensures front { OnErr result (KeepsFront text.old.items text.new.items) }
-{
-    text.extend_from_slice(Buffer::new().format(number).as_bytes())
-}
-
-/// Adds a number to a text. Most have one digit.
-#[inline(always)]
-pub(crate) fn write_number(number: u64, text: &mut Vec<u8>) -> Result<(), AllocError>
-    ensures written { OnOk result (text.new.items ≡ text.old.items ++ decimal number) }
-    ensures front { OnErr result (KeepsFront text.old.items text.new.items) }
-{
-    if number < 10 {
-        text.push(b'0' + number as u8)?;
-        return Ok(());
-    }
-    write_long_number(number, text)
-}
-
-/// Adds a blank and a number to a text.
-#[inline(always)]
-pub(crate) fn write_field(number: u64, text: &mut Vec<u8>) -> Result<(), AllocError>
-    ensures written { OnOk result (text.new.items ≡ text.old.items ++ 32 ∷ decimal number) }
-    ensures front { OnErr result (KeepsFront text.old.items text.new.items) }
-{
-    text.push(b' ')?;
-    write_number(number, text)
-}
 
 /// The number in a field, if it is at most `most`: the field must be the text that is written for
 /// it. For example, `07` isn't read as 7.

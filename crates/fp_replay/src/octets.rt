@@ -5,10 +5,11 @@ ghost use Rattle.fp_frames.specs.Frame.{IsMessageLength};
 ghost use Rattle.hex.specs.Hex.{IsBytes, encode_upper, upper_digits};
 ghost use Rattle.hex.specs.declared.error.FromHexError.TheVariants.{OutOfMemory};
 ghost use Rattle.fp_replay.specs.Format.{identifier_text};
-ghost use Rattle.fp_replay.specs.proof_only.Writing.{KeepsFront};
+ghost use Rattle.fp_replay.specs.proof_only.Writing.{HasRoom, KeepsFront, Puts};
 ghost use Rattle.fp_replay.specs.declared.fault.LineFault.TheVariants.{Memory};
 
 use crate::LineFault;
+use crate::line_part::LinePart;
 use bytes::Bytes;
 use fp_frames::Frame;
 use hex::{FromHex, FromHexError};
@@ -25,7 +26,7 @@ fn digit(value: u8) -> u8
 
 /// Writes the digits of octets over others.
 #[inline(always)]
-fn put_digits(octets: &[u8], digits: &mut [u8])
+fn fill_digits(octets: &[u8], digits: &mut [u8])
     requires { length digits.old ≡ 2 * length octets.now }
     ensures { digits.new ≡ encode_upper octets.now }
 {
@@ -44,19 +45,19 @@ pub(crate) fn write_octets(octets: &[u8], text: &mut Vec<u8>) -> Result<(), Allo
     let before = text.len();
     text.reserve(2 * octets.len())?;
     text.resize(before + 2 * octets.len(), 0)?;
-    put_digits(octets, text.slice_mut(before..));
+    fill_digits(octets, text.slice_mut(before..));
     Ok(())
 }
 
-/// Adds a local transaction identifier to a text.
-pub(crate) fn write_identifier(local: u32, text: &mut Vec<u8>) -> Result<(), AllocError>
-    ensures written { OnOk result (text.new.items ≡ text.old.items ++ identifier_text local) }
-    ensures front { OnErr result (KeepsFront text.old.items text.new.items) }
+/// Puts a local transaction identifier at the front of a part of a line.
+pub(crate) fn put_identifier(local: u32, part: &mut LinePart)
+    requires { HasRoom 8 part.old }
+    ensures { Puts 8 (identifier_text local) part.old part.new }
 {
     // An array of fixed length is written without a loop.
     let mut digits = [0; 8];
-    put_digits(&local.to_be_bytes(), &mut digits);
-    text.extend_from_slice(&digits)
+    fill_digits(&local.to_be_bytes(), &mut digits);
+    part.put_eight(&digits);
 }
 
 /// Whether a field has no letter in lower case: their codes are above the digits' and the upper-case letters'.

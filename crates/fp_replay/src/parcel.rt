@@ -1,23 +1,22 @@
 //! Parcels: picked, sent and not sent.
 
-ghost use Rattle.std.specs.Prelude.{◌≡◌, ◌++◌, ◌∷◌, ◌<◌, ◌^◌, ℕ, IfSome, OnErr, OnOk};
+ghost use Rattle.std.specs.Prelude.{◌≡◌, ◌∷◌, ◌<◌, ◌^◌, ℕ, IfSome};
 ghost use Rattle.fp_replay.specs.proof_only.Reading.{ReadsStep, parcel_fields};
-ghost use Rattle.fp_replay.specs.proof_only.Writing.{KeepsFront};
+ghost use Rattle.fp_replay.specs.proof_only.Writing.{HasRoom, Puts};
 
 use crate::LineFault;
 use crate::fields::one_field;
-use crate::number::{long_number_in, write_field};
+use crate::line_part::LinePart;
+use crate::number::long_number_in;
 use fp_book::LoggedStep;
-use std::alloc::AllocError;
 
-/// Adds the letter and the field of a parcel to a text.
-#[inline(always)]
-pub(crate) fn write_parcel(letter: u8, birth: u64, text: &mut Vec<u8>) -> Result<(), AllocError>
-    ensures written { OnOk result (text.new.items ≡ text.old.items ++ letter ∷ parcel_fields birth) }
-    ensures front { OnErr result (KeepsFront text.old.items text.new.items) }
+/// Puts the letter and the field of a parcel at the front of a part of a line.
+pub(crate) fn put_parcel(letter: u8, birth: u64, part: &mut LinePart)
+    requires { HasRoom 22 part.old }
+    ensures { Puts 22 (letter ∷ parcel_fields birth) part.old part.new }
 {
-    text.push(letter)?;
-    write_field(birth, text)
+    part.put_field(birth);
+    part.put(letter);
 }
 
 /// The birth of a parcel's dialogue, from its field.

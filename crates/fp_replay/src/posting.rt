@@ -1,6 +1,6 @@
 //! A posted message, and one that ran out of memory.
 
-ghost use Rattle.std.specs.Prelude.{◌≡◌, ◌++◌, ◌∷◌, ℕ, List, decimal, IfOk, MatchResult, OnErr, OnOk};
+ghost use Rattle.std.specs.Prelude.{◌≡◌, ◌++◌, ◌∷◌, [], ℕ, List, decimal, IfOk, MatchResult, OnErr, OnOk};
 ghost use Rattle.hex.specs.Hex.{encode_upper};
 ghost use Rattle.fp_book.specs.declared.answers.Posted.{Posted};
 ghost use Rattle.fp_replay.specs.Format.{IsPosting, posted_text};
@@ -9,9 +9,10 @@ ghost use Rattle.fp_replay.specs.proof_only.Writing.{KeepsFront};
 ghost use Rattle.fp_replay.specs.declared.fault.LineFault.TheVariants.{Memory};
 
 use crate::LineFault;
-use crate::answer::{posted_in, write_posted};
+use crate::answer::{posted_in, put_posted};
 use crate::fields::{four_fields, three_fields};
-use crate::number::{moment_in, table_in, write_field};
+use crate::line_part::LinePart;
+use crate::number::{moment_in, table_in};
 use crate::octets::{message_in, write_octets};
 use fp_book::{LoggedStep, Posted};
 use fp_digits::Moment;
@@ -26,46 +27,60 @@ struct Posting {
     answer: Posted,
 }
 
-/// Adds a message and its outcome to a text, each after a blank.
+/// Adds a message and its outcome to a text, each after a blank, and a line feed.
 fn write_answered(message: &Frame, answer: Posted, text: &mut Vec<u8>) -> Result<(), AllocError>
-    ensures written { OnOk result (text.new.items ≡ text.old.items ++ 32 ∷ encode_upper message.now ++ 32 ∷ posted_text answer) }
+    ensures written { OnOk result (text.new.items
+        ≡ text.old.items ++ 32 ∷ encode_upper message.now ++ 32 ∷ posted_text answer ++ 10 ∷ []) }
     ensures front { OnErr result (KeepsFront text.old.items text.new.items) }
 {
     text.push(b' ')?;
     write_octets(message.octets(), text)?;
-    text.push(b' ')?;
-    write_posted(answer, text)
+    let mut part = LinePart::new();
+    part.put(b'\n');
+    put_posted(answer, &mut part);
+    part.put(b' ');
+    part.add_to(text)
 }
 
-/// Adds the letter and the fields of a message that was posted to a text.
+/// Adds to a text the line of a posted message.
 pub(crate) fn write_post(
+    link: u8,
     table: u16,
     moment: Moment,
     message: &Frame,
     answer: Posted,
     text: &mut Vec<u8>,
 ) -> Result<(), AllocError>
-    ensures written { OnOk result (text.new.items ≡ text.old.items ++ 80 ∷ post_fields table moment message.now answer) }
+    ensures written { OnOk result (text.new.items
+        ≡ text.old.items ++ decimal link ++ 32 ∷ 80 ∷ post_fields table moment message.now answer ++ 10 ∷ []) }
     ensures front { OnErr result (KeepsFront text.old.items text.new.items) }
 {
-    text.push(b'P')?;
-    write_field(moment.milliseconds(), text)?;
-    write_field(u64::from(table), text)?;
+    let mut part = LinePart::new();
+    part.put_field(u64::from(table));
+    part.put_field(moment.milliseconds());
+    part.put(b'P');
+    part.put_link(link);
+    part.add_to(text)?;
     write_answered(message, answer, text)
 }
 
-/// Adds the letter and the fields of a message for which memory ran out to a text.
+/// Adds to a text the line of a message that ran out of memory.
 pub(crate) fn write_lost(
+    link: u8,
     moment: Moment,
     message: &Frame,
     answer: Posted,
     text: &mut Vec<u8>,
 ) -> Result<(), AllocError>
-    ensures written { OnOk result (text.new.items ≡ text.old.items ++ 76 ∷ lost_fields moment message.now answer) }
+    ensures written { OnOk result (text.new.items
+        ≡ text.old.items ++ decimal link ++ 32 ∷ 76 ∷ lost_fields moment message.now answer ++ 10 ∷ []) }
     ensures front { OnErr result (KeepsFront text.old.items text.new.items) }
 {
-    text.push(b'L')?;
-    write_field(moment.milliseconds(), text)?;
+    let mut part = LinePart::new();
+    part.put_field(moment.milliseconds());
+    part.put(b'L');
+    part.put_link(link);
+    part.add_to(text)?;
     write_answered(message, answer, text)
 }
 

@@ -1,57 +1,64 @@
 //! A step of a link: its letter and its fields.
 
-ghost use Rattle.std.specs.Prelude.{◌≡◌, ◌++◌, OnErr, OnOk};
-ghost use Rattle.fp_replay.specs.proof_only.Reading.{ReadsStep, step_text};
+ghost use Rattle.std.specs.Prelude.{◌≡◌, ◌++◌, ◌∷◌, [], OnErr, OnOk};
+ghost use Rattle.fp_book.specs.declared.line.Line.TheVariants.{Step};
+ghost use Rattle.fp_replay.specs.Format.{text_of};
+ghost use Rattle.fp_replay.specs.proof_only.Reading.{ReadsStep};
 ghost use Rattle.fp_replay.specs.proof_only.Writing.{KeepsFront};
 
 use crate::LineFault;
-use crate::parcel::{pick_in, sent_in, unsent_in, write_parcel};
+use crate::line_part::LinePart;
+use crate::parcel::{pick_in, put_parcel, sent_in, unsent_in};
 use crate::posting::{lost_in, post_in, write_lost, write_post};
-use crate::tick::{gap_in, tick_in, write_gap, write_tick};
-use crate::turn::{give_in, put_back_in, take_in, write_entries, write_give, write_turn};
+use crate::tick::{gap_in, put_gap, put_tick, tick_in};
+use crate::turn::{give_in, put_back_in, put_entries, put_give, put_turn, take_in};
 use fp_book::LoggedStep;
 use std::alloc::{AllocError, Global};
 
-/// Adds a step to a text.
-pub(crate) fn write_step(step: &LoggedStep, text: &mut Vec<u8>) -> Result<(), AllocError>
-    ensures written { OnOk result (text.new.items ≡ text.old.items ++ step_text step.now) }
+/// Adds the text of a step of this link and a line feed to a text.
+pub(crate) fn write_step(link: u8, step: &LoggedStep, text: &mut Vec<u8>) -> Result<(), AllocError>
+    ensures written { OnOk result (text.new.items ≡ text.old.items ++ text_of (Step link step.now) ++ 10 ∷ []) }
     ensures front { OnErr result (KeepsFront text.old.items text.new.items) }
 {
+    let mut part = LinePart::new();
+    part.put(b'\n');
     match step {
         LoggedStep::Post {
             table,
             moment,
             message,
             answer,
-        } => write_post(*table, *moment, message, *answer, text),
+        } => return write_post(link, *table, *moment, message, *answer, text),
         LoggedStep::Lost {
             moment,
             message,
             answer,
-        } => write_lost(*moment, message, *answer, text),
+        } => return write_lost(link, *moment, message, *answer, text),
         LoggedStep::Tick {
             moment,
             added,
             wanting,
-        } => write_tick(*moment, *added, *wanting, text),
+        } => put_tick(*moment, *added, *wanting, &mut part),
         LoggedStep::Take {
             birth,
             position,
             count,
-        } => write_entries(b'T', *birth, *position, *count, text),
+        } => put_entries(b'T', *birth, *position, *count, &mut part),
         LoggedStep::Give {
             birth,
             position,
             served,
             given,
-        } => write_give(*birth, *position, *served, *given, text),
-        LoggedStep::PutBack { birth, position } => write_turn(b'B', *birth, *position, text),
-        LoggedStep::Pick { birth } => write_parcel(b'Q', *birth, text),
-        LoggedStep::Sent { birth } => write_parcel(b'Y', *birth, text),
-        LoggedStep::Unsent { birth } => write_parcel(b'U', *birth, text),
-        LoggedStep::Down => Ok(text.push(b'N')?),
-        LoggedStep::Gap { lost } => write_gap(*lost, text),
+        } => put_give(*birth, *position, *served, *given, &mut part),
+        LoggedStep::PutBack { birth, position } => put_turn(b'B', *birth, *position, &mut part),
+        LoggedStep::Pick { birth } => put_parcel(b'Q', *birth, &mut part),
+        LoggedStep::Sent { birth } => put_parcel(b'Y', *birth, &mut part),
+        LoggedStep::Unsent { birth } => put_parcel(b'U', *birth, &mut part),
+        LoggedStep::Down => part.put(b'N'),
+        LoggedStep::Gap { lost } => put_gap(*lost, &mut part),
     }
+    part.put_link(link);
+    part.add_to(text)
 }
 
 /// The step without fields, from the text after its letter.

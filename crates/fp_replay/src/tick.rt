@@ -1,30 +1,25 @@
 //! A tick, and a gap.
 
-ghost use Rattle.std.specs.Prelude.{◌≡◌, ◌++◌, ◌∷◌, OnErr, OnOk};
+ghost use Rattle.std.specs.Prelude.{◌∷◌};
 ghost use Rattle.fp_replay.specs.proof_only.Reading.{ReadsStep, gap_fields, tick_fields};
-ghost use Rattle.fp_replay.specs.proof_only.Writing.{KeepsFront};
+ghost use Rattle.fp_replay.specs.proof_only.Writing.{HasRoom, Puts};
 
 use crate::LineFault;
 use crate::fields::{one_field, three_fields};
-use crate::number::{long_number_in, moment_in, short_number_in, write_field};
+use crate::line_part::LinePart;
+use crate::number::{long_number_in, moment_in, short_number_in};
 use fp_book::LoggedStep;
 use fp_digits::Moment;
-use std::alloc::AllocError;
 
-/// Adds the letter and the fields of a tick to a text.
-pub(crate) fn write_tick(
-    moment: Moment,
-    added: u32,
-    wanting: u32,
-    text: &mut Vec<u8>,
-) -> Result<(), AllocError>
-    ensures written { OnOk result (text.new.items ≡ text.old.items ++ 75 ∷ tick_fields moment added wanting) }
-    ensures front { OnErr result (KeepsFront text.old.items text.new.items) }
+/// Puts the letter and the fields of a tick at the front of a part of a line.
+pub(crate) fn put_tick(moment: Moment, added: u32, wanting: u32, part: &mut LinePart)
+    requires { HasRoom 64 part.old }
+    ensures { Puts 64 (75 ∷ tick_fields moment added wanting) part.old part.new }
 {
-    text.push(b'K')?;
-    write_field(moment.milliseconds(), text)?;
-    write_field(u64::from(added), text)?;
-    write_field(u64::from(wanting), text)
+    part.put_field(u64::from(wanting));
+    part.put_field(u64::from(added));
+    part.put_field(moment.milliseconds());
+    part.put(b'K');
 }
 
 /// The tick, from the fields after its letter.
@@ -50,13 +45,13 @@ pub(crate) fn tick_in(fields: &[u8]) -> Result<LoggedStep, LineFault>
     })
 }
 
-/// Adds the letter and the field of a gap to a text.
-pub(crate) fn write_gap(lost: u64, text: &mut Vec<u8>) -> Result<(), AllocError>
-    ensures written { OnOk result (text.new.items ≡ text.old.items ++ 90 ∷ gap_fields lost) }
-    ensures front { OnErr result (KeepsFront text.old.items text.new.items) }
+/// Puts the letter and the field of a gap at the front of a part of a line.
+pub(crate) fn put_gap(lost: u64, part: &mut LinePart)
+    requires { HasRoom 22 part.old }
+    ensures { Puts 22 (90 ∷ gap_fields lost) part.old part.new }
 {
-    text.push(b'Z')?;
-    write_field(lost, text)
+    part.put_field(lost);
+    part.put(b'Z');
 }
 
 /// The gap, from the field after its letter.

@@ -1,30 +1,24 @@
 //! Turns: taken, given and put back.
 
-ghost use Rattle.std.specs.Prelude.{◌≡◌, ◌++◌, ◌∷◌, ◌<◌, ◌^◌, ℕ, IfSome, IsSomeAnd, OnErr, OnOk};
+ghost use Rattle.std.specs.Prelude.{◌≡◌, ◌∷◌, ◌<◌, ◌^◌, ℕ, IfSome, IsSomeAnd};
 ghost use Rattle.fp_replay.specs.proof_only.Reading.{ReadsStep, entries_fields, give_fields, turn_fields};
-ghost use Rattle.fp_replay.specs.proof_only.Writing.{KeepsFront};
+ghost use Rattle.fp_replay.specs.proof_only.Writing.{HasRoom, Puts};
 
 use crate::LineFault;
-use crate::answer::{given_in, write_given};
+use crate::answer::{given_in, put_given};
 use crate::fields::{four_fields, three_fields, two_fields};
-use crate::number::{long_number_in, short_number_in, write_field};
+use crate::line_part::LinePart;
+use crate::number::{long_number_in, short_number_in};
 use fp_book::{Given, LoggedStep};
-use std::alloc::AllocError;
 
-/// Adds the letter and the fields of a turn to a text.
-#[inline(always)]
-pub(crate) fn write_turn(
-    letter: u8,
-    birth: u64,
-    position: u64,
-    text: &mut Vec<u8>,
-) -> Result<(), AllocError>
-    ensures written { OnOk result (text.new.items ≡ text.old.items ++ letter ∷ turn_fields birth position) }
-    ensures front { OnErr result (KeepsFront text.old.items text.new.items) }
+/// Puts the letter and the fields of a turn at the front of a part of a line.
+pub(crate) fn put_turn(letter: u8, birth: u64, position: u64, part: &mut LinePart)
+    requires { HasRoom 43 part.old }
+    ensures { Puts 43 (letter ∷ turn_fields birth position) part.old part.new }
 {
-    text.push(letter)?;
-    write_field(birth, text)?;
-    write_field(position, text)
+    part.put_field(position);
+    part.put_field(birth);
+    part.put(letter);
 }
 
 /// The birth of a turn's dialogue and the position of the turn, from its fields.
@@ -44,20 +38,13 @@ fn turn_in(fields: &[u8]) -> Option<(u64, u64)>
     Some((birth, position))
 }
 
-/// Adds the letter and the fields of a turn and of this number of its entries to a text.
-#[inline(always)]
-pub(crate) fn write_entries(
-    letter: u8,
-    birth: u64,
-    position: u64,
-    count: u32,
-    text: &mut Vec<u8>,
-) -> Result<(), AllocError>
-    ensures written { OnOk result (text.new.items ≡ text.old.items ++ letter ∷ entries_fields birth position count) }
-    ensures front { OnErr result (KeepsFront text.old.items text.new.items) }
+/// Puts the letter and the fields of a turn and of this number of its entries at the front of a part of a line.
+pub(crate) fn put_entries(letter: u8, birth: u64, position: u64, count: u32, part: &mut LinePart)
+    requires { HasRoom 64 part.old }
+    ensures { Puts 64 (letter ∷ entries_fields birth position count) part.old part.new }
 {
-    write_turn(letter, birth, position, text)?;
-    write_field(u64::from(count), text)
+    part.put_field(u64::from(count));
+    put_turn(letter, birth, position, part);
 }
 
 /// The turn that was taken, from the fields after its letter.
@@ -93,20 +80,14 @@ pub(crate) fn put_back_in(fields: &[u8]) -> Result<LoggedStep, LineFault>
     Ok(LoggedStep::PutBack { birth, position })
 }
 
-/// Adds the letter and the fields of a turn that was given to a text.
-pub(crate) fn write_give(
-    birth: u64,
-    position: u64,
-    served: u32,
-    given: Given,
-    text: &mut Vec<u8>,
-) -> Result<(), AllocError>
-    ensures written { OnOk result (text.new.items ≡ text.old.items ++ 71 ∷ give_fields birth position served given) }
-    ensures front { OnErr result (KeepsFront text.old.items text.new.items) }
+/// Puts the letter and the fields of a turn that was given at the front of a part of a line.
+pub(crate) fn put_give(birth: u64, position: u64, served: u32, given: Given, part: &mut LinePart)
+    requires { HasRoom 86 part.old }
+    ensures { Puts 86 (71 ∷ give_fields birth position served given) part.old part.new }
 {
-    write_entries(b'G', birth, position, served, text)?;
-    text.push(b' ')?;
-    write_given(given, text)
+    put_given(given, part);
+    part.put(b' ');
+    put_entries(b'G', birth, position, served, part);
 }
 
 /// The turn that was given, from the fields after its letter.

@@ -6,5 +6,4 @@ returns-clause-front c =
     let old = c.args.text.now.items in
     let k1 = kept_by old _ _ _ (kept_self old) c.in_ok-push.ensures.items in
     let k2 = kept_by old _ _ _ k1 c.in_ok-write_octets.ensures.written in
-    let k3 = kept_by old _ _ _ k2 c.in_ok-push-2.ensures.items in
-    kept_at _ old _ _ k3 c.write_posted.ensures.front
+    kept_at _ old _ _ k2 c.add_to.ensures.front

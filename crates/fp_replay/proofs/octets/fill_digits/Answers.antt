@@ -1,7 +1,7 @@
 use Rattle.std.proofs.Common.{arith}
 use Rattle.hex.specs.Hex.{upper_digits}
 use Rattle.hex.proofs.Pairs.{encode_step, encode_done}
-use Rattle.fp_replay.proofs.octets.put_digits.Goals as goal
+use Rattle.fp_replay.proofs.octets.fill_digits.Goals as goal
 
 pub loop-place-preserved : goal.loop-place-preserved
 loop-place-preserved c =
