@@ -65,8 +65,8 @@
 //! commands, and a line for each link, after one with zeros for each number below the first link, and nothing else
 //! (`specs/Report.antt`). `fp_hub` states the guarantees of a link's book, seats and hub, `fp_linkio` those of reading
 //! frames and writing parcels, and `fp_tally` those of its counters. No contract speaks of the octets of sockets and
-//! the log, or says that the threads get on, or that each does its part in the picture: the tests of `tests_serve`,
-//! over loopback, show it.
+//! the log, or says that the threads get on, or that each does its part in the picture: `tests_serve`, over loopback,
+//! and `tools/attacks`, over the built program, test these.
 #![tactic(auto)]
 
 mod link;
