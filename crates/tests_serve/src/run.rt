@@ -90,7 +90,7 @@ impl Outcome {
     pub(crate) fn want(&self, wanted: &str) -> Result<(), Fail> {
         self.want_told(None, wanted)?;
         if self.replayed.as_slice() != wanted.as_bytes() {
-            return Err(Fail::new("another replay"));
+            return Err(Fail::new(str::from_utf8(self.replayed.as_slice())?));
         }
         Ok(())
     }
@@ -179,10 +179,10 @@ where
         || serve(rt, alloc, gate, plan.settings, &streams, &events, listener),
         || plan.act.play(rt, alloc, &streams),
     );
+    events.finish(rt);
     let log = streams.end(rt, alloc).ok_or("out of memory")?;
     let played = played.ok_or("no answer, or another one")?;
     let seconds_after = played.end.elapsed(rt)?.as_secs();
-    events.finish(rt);
     let (replayed, replay_fault) = replayed(alloc, log.as_slice()).ok_or("out of memory")?;
     Ok(Outcome {
         fault: result.ok_or("out of memory")?.err(),
