@@ -22,7 +22,7 @@ use Rattle.fp_network.specs.Course.{closing_of}
 use Rattle.fp_network.specs.Counting.{ReportsActive}
 use Rattle.fp_network.specs.Endings.{Activates}
 use Rattle.fp_network.specs.Node.{LeavesOthers, connection_in, ended_at, ended_unless, for_link, is_over_at}
-use Rattle.fp_network.specs.Receiving.{EndsAt, HearsEach, NextIf, NextIn, NextOrEnd, OnlyAt, Results, SkipsNone, Steps, Takes, feeding, reader_of}
+use Rattle.fp_network.specs.Receiving.{EndsAt, HearsEach, NextIf, NextIn, NextOrEnd, OnlyAt, Results, SkipsNone, Steps, TakesMessage, feeding, reader_of}
 use Rattle.fp_network.specs.Stepping.{ArrivesIf, ArrivesIn}
 use Rattle.fp_network.proofs.Ending.{closed_led}
 
@@ -133,10 +133,10 @@ takes_from : (setting : Setting) (history : List Event) (place : ℕ) (message :
     → NextOrEnd place old next (Some message) → (way : Steps setting history place message next mid)
     → (so : HearsEach setting (way.more ++ history) place messages mid new) → (count : ℕ) (other : IpaMessage)
     → slice_get (message ∷ messages) count ≡ Some other
-    → Takes setting place other (from old so.node count) (from history so.events count) (so.node count) (so.events count)
+    → TakesMessage setting place other (from old so.node count) (from history so.events count) (so.node count) (so.events count)
 takes_from setting history place message messages old next mid new is way so zero other at =
-    subst (λ (other : IpaMessage). Takes setting place other old history (so.node 0) (so.events 0)) (same_Some message other at)
-    (subst (λ (now : Node). Takes setting place message old history now (so.events 0)) (sym so.first.0) (next, is, way, so.first.1))
+    subst (λ (other : IpaMessage). TakesMessage setting place other old history (so.node 0) (so.events 0)) (same_Some message other at)
+    (subst (λ (now : Node). TakesMessage setting place message old history now (so.events 0)) (sym so.first.0) (next, is, way, so.first.1))
 takes_from setting history place message messages old next mid new is way so (suc count) other at = so.each count other at
 
 pub hears_each : (setting : Setting) (history : List Event) (place : ℕ) (messages : List IpaMessage) (old new : Node)

@@ -127,8 +127,8 @@ IsCut place messages old new =
     Messages (reader_of (connection_in old place)) (map message_value messages) (reader_of (connection_in new place))
 
 -- the next message of the connection in a place is this one, and its steps follow
-abbrev pub Takes : Setting → ℕ → IpaMessage → Node → List Event → Node → List Event → Type 0
-Takes setting place message old history new later =
+abbrev pub TakesMessage : Setting → ℕ → IpaMessage → Node → List Event → Node → List Event → Type 0
+TakesMessage setting place message old history new later =
     (next : Node) × NextOrEnd place old next (Some message)
     × (way : Steps setting history place message next new) × (later ≡ way.more ++ history)
 
@@ -141,7 +141,7 @@ pub record HearsEach (setting : Setting) (history : List Event) (place : ℕ)
   pub first : (node 0 ≡ old) × (events 0 ≡ history)
   pub each :
       (count : ℕ) (message : IpaMessage) → slice_get messages count ≡ Some message
-      → Takes setting place message (node count) (events count) (node (suc count)) (events (suc count))
+      → TakesMessage setting place message (node count) (events count) (node (suc count)) (events (suc count))
   pub last :
       (more : List Event) × EndsAt place (node (length messages)) new more
       × Led new.adaptor setting (more ++ events (length messages))
