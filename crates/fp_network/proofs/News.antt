@@ -1,33 +1,37 @@
 -- Events that weren't returned are still the next ones, and those of a call follow them.
-use Rattle.std.proofs.Common.{◌≡◌, ◌⊎◌, ◌≤◌, ℕ, cond, List, [], ◌∷◌, ◌++◌, Ok, Err, OnErr, Result, is_ok, length, length-append, append_assoc, append-nil, arith, inl, inr, refl, sym, subst, ap, ◌∙◌}
+use Rattle.std.proofs.Common.{◌≡◌, ◌≤◌, ℕ, cond, List, [], ◌∷◌, ◌++◌, Ok, Err, OnErr, Result, is_ok, length, length-append, append_assoc, append-nil, arith, inl, inr, refl, sym, subst, ap, ◌∙◌}
+use Rattle.std.proofs.lemmas.List.Elements.{Contains-append_cases, Contains-append_left, Contains-append_right, Contains-push_cases}
+use Rattle.std.specs.List.{Contains}
 use Rattle.std.specs.VecDeque.{deque_capacity}
 use Rattle.fp_network.specs.declared.event.NetworkEvent.{NetworkEvent}
 use Rattle.fp_network.specs.declared.node.Node.{Node}
-use Rattle.fp_network.specs.Counting.{AreSome, IsAmong, NewsGrow, Notes, Reports}
+use Rattle.fp_network.specs.Counting.{AreSome, NewsGrow, Notes, Reports}
+
+-- no event is one of none, and one of a single one is that
+pub none_of : (event : NetworkEvent) → Contains [] event → ⊥
+none_of event is = omega (arith, is.1)
+
+pub one_of : (event one : NetworkEvent) → Contains (one ∷ []) event → one ≡ event
+one_of event one is = elim (Contains-push_cases [] one event is) [
+  | inl none ↦ absurd (none_of event none)
+  | inr same ↦ same
+]
 
 -- no event is added
-pub notes_none : (old new : Node) → new.news ≡ old.news → Notes [] old new
-notes_none old new same = record {
+unfoldable pub news_same : (old new : Node) → new.news ≡ old.news → NewsGrow old new
+news_same old new same = record {
   more = [];
   grow = ap (λ news. news.items) same ∙ sym (append-nil old.news.items);
-  some = tt;
-  all = inl refl;
   room = let is = ap deque_capacity same in omega (arith, is);
 }
 
-unfoldable pub news_noted : (events : List NetworkEvent) (old new : Node) → Notes events old new → NewsGrow old new
-news_noted events old new so = record { more = so.more; grow = so.grow; room = so.room }
-
-unfoldable pub news_same : (old new : Node) → new.news ≡ old.news → NewsGrow old new
-news_same old new same = let so = notes_none old new same in record {
-  more = [];
-  grow = ap (λ news. news.items) same ∙ sym (append-nil old.news.items);
-  room = so.room;
-}
-
-pub same_silent : (event : NetworkEvent) (old new : Node) (same : new.news ≡ old.news) → IsAmong event (news_same old new same).more → ⊥
+pub notes_none : (old new : Node) → new.news ≡ old.news → Notes [] old new
 unfolding news_same
-same_silent event old new same among = among
+notes_none old new same = record { grows = news_same old new same; some = tt; all = inl refl }
+
+pub same_silent : (event : NetworkEvent) (old new : Node) (same : new.news ≡ old.news) → Contains (news_same old new same).more event → ⊥
+unfolding news_same
+same_silent event old new same among = none_of event among
 
 unfoldable pub news_then : (old mid new : Node) → NewsGrow old mid → NewsGrow mid new → NewsGrow old new
 news_then old mid new first then = record {
@@ -39,60 +43,38 @@ news_then old mid new first then = record {
 news_longer : (mid new : Node) → NewsGrow mid new → length mid.news.items ≤ length new.news.items
 news_longer mid new then = let is = ap length then.grow ∙ length-append mid.news.items then.more in omega (arith, is)
 
--- one of some events, or of others
-among_left : (event : NetworkEvent) (some others : List NetworkEvent) → IsAmong event some → IsAmong event (some ++ others)
-among_left event [] others is = absurd is
-among_left event (first ∷ some) others is = elim is [
-  | inl here ↦ inl here
-  | inr on ↦ inr (among_left event some others on)
-]
-
-among_right : (event : NetworkEvent) (some others : List NetworkEvent) → IsAmong event others → IsAmong event (some ++ others)
-among_right event [] others is = is
-among_right event (first ∷ some) others is = inr (among_right event some others is)
-
-pub among_either : (event : NetworkEvent) (some others : List NetworkEvent) → IsAmong event (some ++ others) → IsAmong event some ⊎ IsAmong event others
-among_either event [] others is = inr is
-among_either event (first ∷ some) others is = elim is [
-  | inl here ↦ inl (inl here)
-  | inr on ↦ elim (among_either event some others on) [
-    | inl left ↦ inl (inr left)
-    | inr right ↦ inr right
-  ]
-]
-
 -- one of those of the events that are there
-pub among_some : (event : NetworkEvent) (some events : List NetworkEvent) → AreSome some events → IsAmong event some → IsAmong event events
-among_some event [] events are is = absurd is
+pub among_some : (event : NetworkEvent) (some events : List NetworkEvent) → AreSome some events → Contains some event → Contains events event
+among_some event [] events are is = absurd (none_of event is)
 among_some event (one ∷ some) [] are is = absurd are
 among_some event (one ∷ some) (first ∷ events) are is = elim are [
-  | inl same ↦ elim is [
-    | inl here ↦ inl (here ∙ same.0)
-    | inr on ↦ inr (among_some event some events same.1 on)
+  | inl same ↦ elim (Contains-append_cases (one ∷ []) some event is) [
+    | inl here ↦ (0, omega arith, sym same.0 ∙ one_of event one here)
+    | inr on ↦ Contains-append_right (first ∷ []) events event (among_some event some events same.1 on)
   ]
-  | inr on ↦ inr (among_some event (one ∷ some) events on is)
+  | inr on ↦ Contains-append_right (first ∷ []) events event (among_some event (one ∷ some) events on is)
 ]
 
 -- an event of the first of two calls, or of the second one
 pub reports_first : (event : NetworkEvent) (some : List NetworkEvent) (old mid new : Node) (then : NewsGrow mid new) → Reports event some old mid
     → Reports event (some ++ then.more) old new
 reports_first event some old mid new then so = elim so [
-  | inl is ↦ inl (among_left event some then.more is)
+  | inl is ↦ inl (Contains-append_left some then.more event is)
   | inr full ↦ inr (let long = news_longer mid new then in omega (arith, full, long))
 ]
 
 pub reports_then : (event : NetworkEvent) (some : List NetworkEvent) (old mid new : Node) (first : NewsGrow old mid) → Reports event some mid new
     → Reports event (first.more ++ some) old new
 reports_then event some old mid new first so = elim so [
-  | inl is ↦ inl (among_right event first.more some is)
+  | inl is ↦ inl (Contains-append_right first.more some event is)
   | inr full ↦ inr (let room = first.room in omega (arith, full, room))
 ]
 
 -- an event of a call that adds these
-pub reports_noted : (event : NetworkEvent) (events : List NetworkEvent) (old new : Node) (notes : Notes events old new) → IsAmong event events
-    → Reports event notes.more old new
+pub reports_noted : (event : NetworkEvent) (events : List NetworkEvent) (old new : Node) (notes : Notes events old new) → Contains events event
+    → Reports event notes.grows.more old new
 reports_noted event events old new notes is = elim notes.all [
-  | inl same ↦ inl (subst (λ (more : List NetworkEvent). IsAmong event more) (sym same) is)
+  | inl same ↦ inl (subst (λ (more : List NetworkEvent). Contains more event) (sym same) is)
   | inr full ↦ inr full
 ]
 
@@ -101,26 +83,14 @@ pub noted : {T E : Type 0} (event : NetworkEvent) (old new : Node) (result : Res
     → new.news.items ≡ cond (is_ok result) (old.news.items ++ event ∷ []) old.news.items
     → OnErr result (deque_capacity old.news ≤ count) → deque_capacity old.news ≤ deque_capacity new.news → Notes (event ∷ []) old new
 noted event old new (Ok value) count counted is full room =
-    record { more = event ∷ []; grow = is; some = inl (refl, tt); all = inl refl; room = room }
+    record { grows = record { more = event ∷ []; grow = is; room = room }; some = inl (refl, tt); all = inl refl }
 noted event old new (Err fault) count counted is full room =
     let same = ap length is in
-    record { more = []; grow = is ∙ sym (append-nil old.news.items); some = tt; all = inr (omega (arith, same, counted, full)); room = room }
-
--- events are added to those of a node that has the same ones
-pub notes_from : (events : List NetworkEvent) (old mid new : Node) → mid.news ≡ old.news → Notes events mid new → Notes events old new
-notes_from events old mid new same so = record {
-  more = so.more;
-  grow = so.grow ∙ ap (λ news. news.items ++ so.more) same;
-  some = so.some;
-  all = elim so.all [
-    | inl is ↦ inl is
-    | inr full ↦ inr (omega (arith, room, full))
-  ];
-  room = let more = so.room in omega (arith, room, more);
-}
-  where
-    room : deque_capacity mid.news ≡ deque_capacity old.news
-    room = ap deque_capacity same
+    record {
+      grows = record { more = []; grow = is ∙ sym (append-nil old.news.items); room = room };
+      some = tt;
+      all = inr (omega (arith, same, counted, full));
+    }
 
 -- events are added, and then others
 some_after : (events some others : List NetworkEvent) → AreSome some others → AreSome some (events ++ others)
@@ -137,19 +107,19 @@ some_then (event ∷ events) (one ∷ some) others more first then = elim first 
 ]
 
 pub notes_then : (events others : List NetworkEvent) (old mid new : Node) → Notes events old mid → Notes others mid new → Notes (events ++ others) old new
+unfolding news_then
 notes_then events others old mid new first then = record {
-  more = first.more ++ then.more;
-  grow = then.grow ∙ ap (λ l. l ++ then.more) first.grow ∙ append_assoc old.news.items first.more then.more;
-  some = some_then events first.more others then.more first.some then.some;
+  grows = news_then old mid new first.grows then.grows;
+  some = some_then events first.grows.more others then.grows.more first.some then.some;
   all = elim first.all [
     | inl is ↦ elim then.all [
       | inl same ↦ inl (λ i. is i ++ same i)
-      | inr full ↦ inr (let room = first.room in omega (arith, room, full))
+      | inr full ↦ inr (let room = first.grows.room in omega (arith, room, full))
     ]
-    | inr full ↦ inr (omega (arith, full, long))
+    | inr full ↦ inr (let long = news_longer mid new then.grows in omega (arith, full, long))
   ];
-  room = let one = first.room in let other = then.room in omega (arith, one, other);
 }
-  where
-    long : length mid.news.items ≤ length new.news.items
-    long = let is = ap length then.grow ∙ length-append mid.news.items then.more in omega (arith, is)
+
+-- events are added to those of a node that has the same ones
+pub notes_from : (events : List NetworkEvent) (old mid new : Node) → mid.news ≡ old.news → Notes events mid new → Notes events old new
+notes_from events old mid new same = notes_then [] events old mid new (notes_none old mid same)

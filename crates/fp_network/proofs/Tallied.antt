@@ -2,7 +2,9 @@
 use Rattle.std.proofs.Common.{◌≡◌, ℕ, zero, suc, ◌<◌, Bool, true, false, not, ◌&&◌, nat_eq, List, [], ◌∷◌, Option, Some, None, arith, inl, inr, length, is_some, slice_get, refl, sym, subst, ap, ◌∙◌}
 use Rattle.std.proofs.lemmas.Bool.{cases_Bool, cases_lt, eqb-false, eqb-true, false≢true}
 use Rattle.std.proofs.lemmas.List.{get_or_past}
+use Rattle.std.proofs.lemmas.List.Elements.{Contains-append_cases, Contains-push}
 use Rattle.std.proofs.lemmas.Option.{none-some}
+use Rattle.std.specs.List.{Contains}
 use Rattle.std.specs.Option.{option_map}
 use Rattle.fp_adaptor.specs.Counted.{one_more}
 use Rattle.fp_ipa.specs.declared.message.IpaMessage.{IpaMessage}
@@ -17,14 +19,14 @@ use Rattle.fp_network.specs.declared.event.NetworkEvent.TheVariants.{Gone}
 use Rattle.fp_network.specs.declared.node.Node.{Node}
 use Rattle.fp_network.specs.declared.tally.Tally.{Tally}
 use Rattle.fp_network.specs.Changes.{closing, is_slow, sending, sending_if}
-use Rattle.fp_network.specs.Counting.{Counts, IsAmong, NewsGrow, Notes, Reports, ReportsActive, active_for, active_of, closes_for, counted_below, counted_if, course_at, course_of, is_reason, number_of, reason_of}
+use Rattle.fp_network.specs.Counting.{Counts, NewsGrow, Notes, ReportsActive, active_for, active_of, closes_for, counted_below, counted_if, course_at, course_of, gone_at, gone_for, gone_if, is_reason, number_of, reason_of}
 use Rattle.fp_network.specs.Course.{closed, closing_of}
 use Rattle.fp_network.specs.Node.{LeavesOthers, connection_at, connection_in, is_over_at, is_over_of}
 use Rattle.fp_network.specs.Receiving.{NextIf, NextIn, feeding}
 use Rattle.fp_network.specs.Stepping.{ArrivesIf, ArrivesIn}
 use Rattle.fp_network.specs.Tally.{closed_once_more, closings_of}
 use Rattle.fp_network.proofs.First.{same_some}
-use Rattle.fp_network.proofs.News.{among_either, among_some, news_noted, news_same, news_then, reports_first, reports_noted, reports_then, same_silent}
+use Rattle.fp_network.proofs.News.{among_some, news_same, news_then, none_of, one_of, reports_first, reports_noted, reports_then, same_silent}
 
 -- the number of a connection and how far it is from its end, if there is one
 abbrev pub progress_of : Option Connection → Option (ℕ × Course)
@@ -88,13 +90,29 @@ pub none_if : (why : Option Closing) → is_some why ≡ false → why ≡ None
 none_if None is = refl
 none_if (Some why) is = absurd (false≢true (sym is))
 
-over_for : (why : Closing) (own : Option Connection) → reason_of own ≡ Some why → is_over_of own ≡ true
-over_for why None is = absurd (none-some _ is)
-over_for why (Some own) is = ap is_some is
-
 why_none : (own : Option Connection) → is_over_of own ≡ false → reason_of own ≡ None
 why_none None lives = refl
 why_none (Some own) lives = none_if (closing_of own.course) lives
+
+-- the event of a connection that is closed depends on its number and its course, and there is none of any other one
+gone_as : (over : Bool) (one other : Option Connection) → number_of one ≡ number_of other → course_of one ≡ course_of other
+    → gone_if over one ≡ gone_if over other
+gone_as true one other number course = refl
+gone_as false None None number course = refl
+gone_as false None (Some other) number course = absurd (none-some _ number)
+gone_as false (Some one) None number course = absurd (none-some _ (sym number))
+gone_as false (Some one) (Some other) number course =
+    λ i. gone_for (same_some one.number other.number number i) (why_same (Some one) (Some other) course i)
+
+gone_over : (over : Bool) (own : Option Connection) (event : NetworkEvent) → gone_if over own ≡ event ∷ []
+    → (over ≡ false) × (is_over_of own ≡ true)
+gone_over true own event is = absurd (let none = ap length is in omega (arith, none))
+gone_over false None event is = absurd (let none = ap length is in omega (arith, none))
+gone_over false (Some own) event is = (refl, by (closing_of own.course) is)
+  where
+    by : (why : Option Closing) → gone_for own.number why ≡ event ∷ [] → is_some why ≡ true
+    by None is = absurd (let none = ap length is in omega (arith, none))
+    by (Some why) is = refl
 
 -- which of the places are counted decides alone
 below_none : (upto count : ℕ) (are : ℕ → Bool) → ((place : ℕ) → place < upto → are place ≡ false) → counted_below upto are count ≡ count
@@ -166,19 +184,17 @@ counts_more old mid new long first then = record {
   connections = then.connections ∙ first.connections;
   numbers = λ place. then.numbers place ∙ first.numbers place;
   news = news_then old mid new first.news then.news;
-  reported = λ place number why so. elim (cases_Bool (is_over_at mid place)) [
-    | inl over ↦ reports_first (Gone number why) first.news.more old mid new then.news
-        (first.reported place number why (so.0, sym (why_on place over) ∙ so.1, so.2))
-    | inr lives ↦ reports_then (Gone number why) then.news.more old mid new first.news
-        (then.reported place number why (lives, so.1, first.numbers place ∙ so.2))
+  reported = λ place event so. elim (cases_Bool (is_over_at mid place)) [
+    | inl over ↦ reports_first event first.news.more old mid new then.news (first.reported place event (first_gone place over ∙ so))
+    | inr lives ↦ reports_then event then.news.more old mid new first.news (then.reported place event (then_gone place lives ∙ so))
   ];
-  only = λ number why among. elim (among_either (Gone number why) first.news.more then.news.more among) [
+  only = λ number why among. elim (Contains-append_cases first.news.more then.news.more (Gone number why) among) [
     | inl is ↦
         let so = first.only number why is in
-        (so.0, (so.1.0, why_on so.0 (over_for why (connection_in mid so.0) so.1.1) ∙ so.1.1, so.1.2))
+        (so.0, sym (first_gone so.0 (gone_over _ _ _ so.1).1) ∙ so.1)
     | inr is ↦
         let so = then.only number why is in
-        (so.0, (lived so.0 so.1.0, so.1.1, sym (first.numbers so.0) ∙ so.1.2))
+        (so.0, sym (then_gone so.0 (gone_over _ _ _ so.1).0) ∙ so.1)
   ];
 }
   where
@@ -194,6 +210,12 @@ counts_more old mid new long first then = record {
       | inr before ↦ before
     ]
 
+    first_gone : (place : ℕ) → is_over_at mid place ≡ true → gone_at old mid place ≡ gone_at old new place
+    first_gone place over = gone_as (is_over_at old place) _ _ (sym (then.numbers place)) (sym (then.stay place over))
+
+    then_gone : (place : ℕ) → is_over_at mid place ≡ false → gone_at mid new place ≡ gone_at old new place
+    then_gone place lives = ap (λ (over : Bool). gone_if over (connection_in new place)) (lives ∙ sym (lived place lives))
+
 -- nothing is closed
 unless_over : (why : Closing) (over : Bool) (is : Option Closing) → (over ≡ false → is ≡ None) → (not over && is_reason why is) ≡ false
 unless_over why true is none = refl
@@ -206,7 +228,7 @@ not_closed why old new place same =
 
 pub counts_same : (old new : Node) → ((why : Closing) → closings_of new.tally why ≡ closings_of old.tally why)
     → new.tally.connections ≡ old.tally.connections → CoursesStay old new → (news : NewsGrow old new)
-    → ((number : ℕ) (why : Closing) → IsAmong (Gone number why) news.more → ⊥) → Counts old new
+    → ((number : ℕ) (why : Closing) → Contains news.more (Gone number why) → ⊥) → Counts old new
 counts_same old new tally connections same news silent = record {
   each = λ why.
       tally why
@@ -216,8 +238,9 @@ counts_same old new tally connections same news silent = record {
   connections = connections;
   numbers = λ place. number_same (connection_in new place) (connection_in old place) (same place);
   news = news;
-  reported = λ place number why so.
-      absurd (none-some _ (sym (why_none (connection_in old place) so.0) ∙ sym (why_same (connection_in new place) (connection_in old place) (courses place)) ∙ so.1));
+  reported = λ place event so.
+      let is = gone_over _ _ event so in
+      absurd (false≢true (sym is.0 ∙ sym (over_of_course (connection_in new place) (connection_in old place) (courses place)) ∙ is.1));
   only = λ number why among. absurd (silent number why among);
 }
   where
@@ -279,7 +302,7 @@ counts_at place old new here others tally news =
 
 -- a call changes no connection, and counts none
 pub counts_places : (old new : Node) → new.places ≡ old.places → new.tally ≡ old.tally → (news : NewsGrow old new)
-    → ((number : ℕ) (why : Closing) → IsAmong (Gone number why) news.more → ⊥) → Counts old new
+    → ((number : ℕ) (why : Closing) → Contains news.more (Gone number why) → ⊥) → Counts old new
 counts_places old new places tally =
     counts_same old new (λ why. ap (λ (t : Tally). closings_of t why) tally) (ap (λ (t : Tally). t.connections) tally)
     (λ place. ap (λ places. progress_of (connection_at places.items place)) places)
@@ -292,30 +315,22 @@ abbrev reason_in : NetworkEvent → Option Closing
 reason_in (Gone number why) = Some why
 reason_in event = None
 
-abbrev number_in : NetworkEvent → Option ℕ
-number_in (Gone number why) = Some number
-number_in event = None
-
 active_for_stays : (event : NetworkEvent) (why : Closing) (number : ℕ) (named : Option (List ℕ)) → reason_in event ≡ Some why
-    → IsAmong event (active_for number named) → ⊥
-active_for_stays event why number None gone among = among
-active_for_stays event why number (Some unit) gone among = elim among [
-  | inl is ↦ none-some _ (sym (ap reason_in is) ∙ gone)
-  | inr none ↦ none
-]
+    → Contains (active_for number named) event → ⊥
+active_for_stays event why number None gone among = none_of event among
+active_for_stays event why number (Some unit) gone among = none-some _ (ap reason_in (one_of event _ among) ∙ gone)
 
 active_stays : (event : NetworkEvent) (why : Closing) (names : List (List ℕ)) (unit : ℕ) (own : Option Connection) → reason_in event ≡ Some why
-    → IsAmong event (active_of names unit own) → ⊥
-active_stays event why names unit None gone among = among
+    → Contains (active_of names unit own) event → ⊥
+active_stays event why names unit None gone among = none_of event among
 active_stays event why names unit (Some own) gone among = active_for_stays event why own.number (slice_get names unit) gone among
 
 pub counts_active : (names : List (List ℕ)) (unit : ℕ) (own : Option Connection) (old new : Node) → new.places ≡ old.places
     → new.tally ≡ old.tally → Notes (active_of names unit own) old new → Counts old new
-unfolding news_noted
 counts_active names unit own old new places tally notes =
-    counts_places old new places tally (news_noted (active_of names unit own) old new notes) (λ number why among.
+    counts_places old new places tally notes.grows (λ number why among.
     active_stays (Gone number why) why names unit own refl
-    (among_some (Gone number why) notes.more (active_of names unit own) notes.some among))
+    (among_some (Gone number why) notes.grows.more (active_of names unit own) notes.some among))
 
 -- the event hangs on the number of the connection alone, so that it is reported after others
 active_by : List (List ℕ) → ℕ → Option ℕ → List NetworkEvent
@@ -329,12 +344,12 @@ active_is names unit (Some own) = refl
 
 pub active_then : (unit place : ℕ) (old mid new : Node) → mid.names.items ≡ old.names.items → Counts old mid
     → Notes (active_of mid.names.items unit (connection_in mid place)) mid new → ReportsActive unit place old new
-unfolding news_then news_noted
+unfolding news_then
 active_then unit place old mid new names counts notes = record {
-  news = news_then old mid new counts.news (news_noted (active_of mid.names.items unit (connection_in mid place)) mid new notes);
-  reported = λ event is. reports_then event notes.more old mid new counts.news
+  news = news_then old mid new counts.news notes.grows;
+  reported = λ event is. reports_then event notes.grows.more old mid new counts.news
       (reports_noted event (active_of mid.names.items unit (connection_in mid place)) mid new notes
-      (subst (λ (events : List NetworkEvent). IsAmong event events) (sym same) is));
+      (subst (λ (events : List NetworkEvent). Contains events event) (sym same) is));
 }
   where
     same : active_of mid.names.items unit (connection_in mid place) ≡ active_of old.names.items unit (connection_in old place)
@@ -364,20 +379,15 @@ closing_for : (why : Closing) (own : Option Connection) → is_over_of own ≡ f
 closing_for why None lives = absurd (false≢true (sym lives))
 closing_for why (Some own) lives = closed_for why own.course lives
 
-abbrev closing_or : Closing → Option Closing → Closing
-closing_or other None = other
-closing_or other (Some why) = why
-
 closing_number : (why : Closing) (own : Option Connection) → number_of (option_map (closing why) own) ≡ number_of own
 closing_number why None = refl
 closing_number why (Some own) = refl
 
--- the one that is closed is reported, under its number and for the reason
-reports_closing : (why other : Closing) (number named : ℕ) (old new : Node) (notes : Notes (Gone number why ∷ []) old new) → Some why ≡ Some other
-    → Some number ≡ Some named → Reports (Gone named other) notes.more old new
-reports_closing why other number named old new notes is same =
-    subst (λ (event : NetworkEvent). Reports event notes.more old new) (λ i. Gone (same_some number named same i) (closing_or why (is i)))
-    (reports_noted (Gone number why) (Gone number why ∷ []) old new notes (inl refl))
+-- the event of the one that is closed has its number and the reason
+pub gone_is : (why : Closing) (own : Option Connection) (number : ℕ) → is_over_of own ≡ false → number_of own ≡ Some number
+    → gone_if false (option_map (closing why) own) ≡ Gone number why ∷ []
+gone_is why None number lives is = absurd (none-some _ is)
+gone_is why (Some own) number lives is = λ i. gone_for (same_some own.number number is i) (closed_for why own.course lives i)
 
 pub counts_one : (why : Closing) (place : ℕ) (old new : Node) → connection_in new place ≡ option_map (closing why) (connection_in old place)
     → LeavesOthers place old new → (is_over_at old place ≡ true → new.tally ≡ old.tally)
@@ -385,7 +395,6 @@ pub counts_one : (why : Closing) (place : ℕ) (old new : Node) → connection_i
     → (is_over_at old place ≡ true → new.news ≡ old.news)
     → (is_over_at old place ≡ false → (number : ℕ) × (number_of (connection_in old place) ≡ Some number) × Notes (Gone number why ∷ []) old new)
     → new.tally.connections ≡ old.tally.connections → Counts old new
-unfolding news_noted
 counts_one why place old new here others stays counts silent reports connections = elim (cases_Bool (is_over_at old place)) [
   | inl over ↦ counts_same old new (λ other. ap (λ (t : Tally). closings_of t other) (stays over)) connections
       (courses_at place old new (ap progress_of here ∙ closing_stays why (connection_in old place) over) others)
@@ -403,33 +412,26 @@ counts_one why place old new here others stays counts silent reports connections
           (ap number_of here ∙ closing_number why (connection_in old place))
       | inr apart ↦ ap number_of (others other (eqb-false other place apart))
     ];
-    news = let report = reports lives in news_noted (Gone report.0 why ∷ []) old new report.2;
-    reported = λ other number reason so. elim (cases_Bool (nat_eq other place)) [
-      | inl at ↦
-          let report = reports lives in
-          let same = eqb-true other place at in
-          reports_closing why reason report.0 number old new report.2
-          (sym (closing_for why (connection_in old place) lives) ∙ ap reason_of (sym here ∙ ap (connection_in new) (sym same)) ∙ so.1)
-          (sym report.1 ∙ ap (λ (place : ℕ). number_of (connection_in old place)) (sym same) ∙ so.2)
+    news = let report = reports lives in report.2.grows;
+    reported = λ other event so. elim (cases_Bool (nat_eq other place)) [
+      | inl at ↦ reports_noted event (Gone (reports lives).0 why ∷ []) old new (reports lives).2
+          (subst (λ (events : List NetworkEvent). Contains events event)
+          (sym so ∙ ap (gone_at old new) (eqb-true other place at) ∙ gone lives) (Contains-push [] event))
       | inr apart ↦
-          absurd (none-some _ (sym (why_none (connection_in old other) so.0) ∙ sym (ap reason_of (others other (eqb-false other place apart))) ∙ so.1))
+          let is = gone_over _ _ event so in
+          absurd (false≢true (sym is.0 ∙ sym (ap is_over_of (others other (eqb-false other place apart))) ∙ is.1))
     ];
     only = λ number reason among.
         let report = reports lives in
-        elim (among_some (Gone number reason) report.2.more (Gone report.0 why ∷ []) report.2.some among) [
-          | inl is ↦ (
-            place,
-            (
-              lives,
-              ap reason_of here ∙ closing_for why (connection_in old place) lives ∙ sym (ap reason_in is),
-              report.1 ∙ sym (ap number_in is),
-            ),
-          )
-          | inr none ↦ absurd none
-        ];
+        (place, gone lives ∙ ap (λ (event : NetworkEvent). event ∷ [])
+        (one_of (Gone number reason) (Gone report.0 why)
+        (among_some (Gone number reason) report.2.grows.more (Gone report.0 why ∷ []) report.2.some among)));
   }
 ]
   where
+    gone : (lives : is_over_at old place ≡ false) → gone_at old new place ≡ Gone (reports lives).0 why ∷ []
+    gone lives = (λ i. gone_if (lives i) (here i)) ∙ gone_is why (connection_in old place) (reports lives).0 lives (reports lives).1
+
     within : is_over_at old place ≡ false → place < length old.places.items
     within lives = elim (cases_lt place (length old.places.items)) [
       | inl below ↦ below

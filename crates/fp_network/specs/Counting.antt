@@ -1,5 +1,6 @@
 -- How the connections that a call closes are counted and reported.
 use Rattle.std.specs.Prelude.{◌≡◌, ℕ, zero, suc, ◌==◌, ◌≤◌, Bool, true, false, not, ◌&&◌, if◌then◌else◌, List, [], ◌∷◌, ◌++◌, ◌⊎◌, Option, Some, None, length, slice_get}
+use Rattle.std.specs.List.{Contains, flat_map, range_with_len}
 use Rattle.std.specs.VecDeque.{deque_capacity}
 use Rattle.fp_adaptor.specs.Counted.{one_more}
 use Rattle.fp_network.specs.declared.connection.Connection.{Connection}
@@ -55,13 +56,9 @@ pub record NewsGrow (old new : Node) : Type 0 where
 abbrev pub FillsRoom : Node → Node → Type 0
 FillsRoom old new = deque_capacity old.news ≤ length new.news.items
 
--- this event is one of these
-abbrev pub IsAmong : NetworkEvent → List NetworkEvent → Type 0
-IsAmong event [] = ⊥
-IsAmong event (first ∷ more) = (event ≡ first) ⊎ IsAmong event more
-
+-- this event is one of these, unless it is missing since the room is full
 abbrev pub Reports : NetworkEvent → List NetworkEvent → Node → Node → Type 0
-Reports event more old new = IsAmong event more ⊎ FillsRoom old new
+Reports event more old new = Contains more event ⊎ FillsRoom old new
 
 -- these are some of the events, in their order
 abbrev pub AreSome : List NetworkEvent → List NetworkEvent → Type 0
@@ -72,11 +69,9 @@ AreSome (some ∷ more) (event ∷ events) =
 
 -- These events follow those that weren't returned, in their order. One is missing only if the room is full.
 pub record Notes (events : List NetworkEvent) (old new : Node) : Type 0 where
-  pub more : List NetworkEvent
-  pub grow : new.news.items ≡ old.news.items ++ more
-  pub some : AreSome more events
-  pub all : (more ≡ events) ⊎ FillsRoom old new
-  pub room : deque_capacity old.news ≤ deque_capacity new.news
+  pub grows : NewsGrow old new
+  pub some : AreSome grows.more events
+  pub all : (grows.more ≡ events) ⊎ FillsRoom old new
 
 -- the event of a connection of this number, if it is to be closed for a reason
 abbrev pub gone_for : ℕ → Option Closing → List NetworkEvent
@@ -92,10 +87,9 @@ gone_if false (Some own) = gone_for own.number (closing_of own.course)
 abbrev pub gone_at : Node → Node → ℕ → List NetworkEvent
 gone_at old new place = gone_if (is_over_at old place) (connection_in new place)
 
--- those of the places below this one, in the order of the places
+-- those of this number of places, in the order of the places
 abbrev pub gone_below : ℕ → Node → Node → List NetworkEvent
-gone_below zero old new = []
-gone_below (suc place) old new = gone_below place old new ++ gone_at old new place
+gone_below count old new = flat_map (gone_at old new) (range_with_len 0 count)
 
 -- each connection that a call closes is reported, in the order of the places, and nothing else is
 abbrev pub ReportsEach : Node → Node → Type 0
@@ -115,7 +109,7 @@ active_of names unit (Some own) = active_for own.number (slice_get names unit)
 pub record ReportsActive (unit place : ℕ) (old new : Node) : Type 0 where
   pub news : NewsGrow old new
   pub reported :
-      (event : NetworkEvent) → IsAmong event (active_of old.names.items unit (connection_in old place))
+      (event : NetworkEvent) → Contains (active_of old.names.items unit (connection_in old place)) event
       → Reports event news.more old new
 
 -- a connection of this number got no place, so that it is over at once
@@ -127,12 +121,6 @@ gone_unless number (Some place) = []
 abbrev pub number_of : Option Connection → Option ℕ
 number_of None = None
 number_of (Some own) = Some own.number
-
--- a call closes the connection in a place, of this number, for this reason
-abbrev pub IsClosed : ℕ → ℕ → Closing → Node → Node → Type 0
-IsClosed place number why old new =
-    (is_over_at old place ≡ false) × (reason_of (connection_in new place) ≡ Some why)
-    × (number_of (connection_in old place) ≡ Some number)
 
 -- Each connection that a call closes is counted once, for its reason, and reported with its number and that reason; no
 -- other one is. One that was to be closed before still is, for the same reason. None comes, and each keeps its number.
@@ -147,8 +135,8 @@ pub record Counts (old new : Node) : Type 0 where
   pub numbers : (place : ℕ) → number_of (connection_in new place) ≡ number_of (connection_in old place)
   pub news : NewsGrow old new
   pub reported :
-      (place number : ℕ) (why : Closing) → IsClosed place number why old new
-      → Reports (Gone number why) news.more old new
+      (place : ℕ) (event : NetworkEvent) → gone_at old new place ≡ event ∷ []
+      → Reports event news.more old new
   pub only :
-      (number : ℕ) (why : Closing) → IsAmong (Gone number why) news.more
-      → (place : ℕ) × IsClosed place number why old new
+      (number : ℕ) (why : Closing) → Contains news.more (Gone number why)
+      → (place : ℕ) × (gone_at old new place ≡ Gone number why ∷ [])

@@ -1,5 +1,5 @@
-use Rattle.std.proofs.Common.{◌≡◌, ◌≤◌, ℕ, List, [], Option, Some, None, arith, length, refl, sym, subst, ap}
-use Rattle.std.proofs.lemmas.Option.{slice_get_past}
+use Rattle.std.proofs.Common.{◌≡◌, ◌≤◌, ◌<◌, ℕ, List, [], Option, Some, None, arith, length, slice_get, refl, sym, subst, ap}
+use Rattle.std.proofs.lemmas.Option.{slice_get_past, slice_get_read}
 use Rattle.fp_network.specs.declared.connection.Connection.{Connection}
 use Rattle.fp_network.specs.declared.event.NetworkEvent.{NetworkEvent}
 use Rattle.fp_network.specs.Counting.{Notes, active_for, active_of}
@@ -19,3 +19,14 @@ returns-else-unit-len-clause-news c =
     subst (λ (events : List NetworkEvent). Notes events c.args.self.now c.args.self.now)
     (sym (none_active c.args.self.now.names.items c.args.unit (connection_in c.args.self.now c.args.place) past))
     (notes_none c.args.self.now c.args.self.now refl)
+
+pub returns-in_default-clause-news : goal.returns-in_default-clause-news
+returns-in_default-clause-news c = rw c.in_default.ensures (notes_none c.args.self.now c.args.self.now refl)
+
+pub returns-then-unit-len-clause-news : goal.returns-then-unit-len-clause-news
+returns-then-unit-len-clause-news c =
+    let test = c.if-unit-len.true in
+    let names = c.args.self.now.names.items in
+    let named : slice_get names c.args.unit ≡ Some c.index-unit.result.now
+    = slice_get_read names (length names) c.args.unit c.index-unit.result.now refl (omega (arith, test)) c.index-unit.ensures in
+    rw (c.in-Some.ensures, named, sym c.number-connection.ensures) c.note.ensures.news
