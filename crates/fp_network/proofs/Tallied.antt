@@ -422,10 +422,12 @@ counts_one why place old new here others stays counts silent reports connections
           absurd (false≢true (sym is.0 ∙ sym (ap is_over_of (others other (eqb-false other place apart))) ∙ is.1))
     ];
     only = λ number reason among.
-        let report = reports lives in
-        (place, gone lives ∙ ap (λ (event : NetworkEvent). event ∷ [])
-        (one_of (Gone number reason) (Gone report.0 why)
-        (among_some (Gone number reason) report.2.grows.more (Gone report.0 why ∷ []) report.2.some among)));
+        let report = reports lives in (
+          place,
+          gone lives ∙ ap (λ (event : NetworkEvent). event ∷ [])
+              (one_of (Gone number reason) (Gone report.0 why)
+              (among_some (Gone number reason) report.2.grows.more (Gone report.0 why ∷ []) report.2.some among)),
+        );
   }
 ]
   where
