@@ -14,7 +14,8 @@ use crate::number::positive_number_in;
 use fp_book::Line;
 use fp_tids::LocalIds;
 
-/// Puts the head of a log at the front of a part of a line: how many links there are, and the tag of the run, if it has one.
+/// Puts the head of a log at the front of a part of a line: how many links there are, and the tag of the run, if it has
+/// one.
 pub(crate) fn put_head(links: u8, tag: u16, part: &mut LinePart)
     requires { HasRoom 49 part.old }
     ensures { Puts 49 (text_of (lines.Head links tag)) part.old part.new }
