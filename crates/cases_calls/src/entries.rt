@@ -3,6 +3,7 @@
 //! | Case | Result |
 //! |---|---|
 //! | `prepare MOMENT CONTEXT HEX` | the prepared message of these octets, and its frame: its identifiers, how many octets it has, and its moment |
+//! | `look-ups OCTETS` | the records that Begins to numbers with these last octets find, read one after another with one look-up |
 //! | `in-continue HEX` | the prepared Continue from 0000002A to 00000001 with only this component, at noon, with indefinite lengths around the component |
 //! | `lost MOMENT HEX` | the prepared message for the frame of these octets, if memory ran out |
 //! | `list MOMENTS KINDS` | a list before and after its first entry, and copies of its entries after it was taken apart and put together again |
@@ -17,11 +18,11 @@ mod lists;
 mod shown;
 
 use crate::entries::lists::{append, distinct, list};
-use crate::entries::shown::push_prepared;
+use crate::entries::shown::{push_called, push_prepared};
 use crate::values::{after_noon, frame_of, name_of};
 use cases::first_word;
 use fp_digits::Moment;
-use fp_entry::Prepared;
+use fp_entry::{Lookup, Prepared};
 use fp_records::Table;
 pub(crate) use shown::push_name;
 use std::alloc::Global;
@@ -58,6 +59,7 @@ impl Scene {
     ) -> anyhow::Result<bool> {
         let written = match kind {
             "prepare" => prepare(alloc, &self.table, rest, out),
+            "look-ups" => look_ups(alloc, &self.table, rest, out),
             "in-continue" => in_continue(alloc, &self.table, rest, out),
             "lost" => lost(alloc, &self.table, rest, out),
             "list" => list(alloc, &self.table, rest, out),
@@ -94,6 +96,21 @@ fn prepare(alloc: Global, table: &Table, text: &str, out: &mut String) -> anyhow
     let moment = after_noon(milliseconds.parse()?);
     let prepared = prepared(alloc, table, moment, context, octets)?;
     push_prepared(table, &prepared, out)
+}
+
+/// Writes the record that each of several Begins finds with one look-up: those to numbers with these last octets.
+fn look_ups(alloc: Global, table: &Table, octets: &str, out: &mut String) -> anyhow::Result<()> {
+    let mut lookup = Lookup::new(alloc, table);
+    out.push_str("found")?;
+    for last in octets.split_whitespace() {
+        let message = format!(in alloc;
+            "622D48040000002A6C25A123020101020100301B8001648207831008103254{last}83078313032143650785010A9C0103"
+        )?;
+        let frame = frame_of(alloc, message.as_str())?;
+        let prepared = Prepared::read_with(alloc, &mut lookup, &[], frame, after_noon(0));
+        push_called(table, &prepared, out)?;
+    }
+    Ok(())
 }
 
 /// Writes the prepared Continue with only this component.

@@ -13,7 +13,7 @@ use crate::script::{Steps, play};
 use crate::texts::moment_after;
 use anyhow::bail;
 use cases::{first_word, push_octets};
-use fp_entry::Prepared;
+use fp_entry::{Lookup, Prepared};
 use fp_linkstate::{ArrivalQueue, Reading};
 use fp_records::Table;
 use std::alloc::Global;
@@ -39,13 +39,13 @@ fn push_message(out: &mut String, message: &Prepared, is_first: bool) -> anyhow:
 impl Coming<'_> {
     /// Prepares frames, and writes the messages.
     fn prepare(&mut self, out: &mut String) -> anyhow::Result<()> {
-        let reading = Reading {
+        let mut reading = Reading {
             alloc: self.alloc,
-            table: Some(self.table),
+            lookup: Some(Lookup::new(self.alloc, self.table)),
             contexts: &[],
             moment: moment_after(0)?,
         };
-        self.queue.prepare(&reading, &mut self.messages)?;
+        self.queue.prepare(&mut reading, &mut self.messages)?;
         let mut is_first = true;
         for message in self.messages.iter() {
             push_message(out, message, is_first)?;

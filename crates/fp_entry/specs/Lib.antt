@@ -6,5 +6,7 @@ pub mod Failure
 pub mod Found
 pub mod Incoming
 pub mod Laws
+pub mod Lookup
 pub mod Prepared
 pub mod Same
+pub mod SharedRecord

@@ -8,10 +8,9 @@ ghost use Rattle.fp_q773.specs.View.{code_of, component_of, tree_in};
 ghost use Rattle.fp_entry.specs.Component.{IsEventKind, IsInitialDpKind, IsInvokeKind, IsKind, rejected_identifier};
 ghost use Rattle.fp_entry.specs.Found.{found};
 
-use crate::{EntryKind, Found, SharedRecord};
+use crate::{EntryKind, Found, Lookup};
 use fp_inap::{InitialDp, Operation, event_report_in, initial_dp_in};
 use fp_q773::{Code, Component, Invoke, InvokeProblem, Problem, Reject};
-use fp_records::Table;
 use std::alloc::AllocError;
 
 /// Whether the code is this operation's.
@@ -25,8 +24,9 @@ fn is_operation(code: Code<'_>, operation: Operation) -> bool
 }
 
 /// The table's answer to the called number of an InitialDP.
-fn find(table: &Table, dp: &InitialDp) -> Result<Found, AllocError>
-    ensures { IfOk result (λ f. f ≡ found table.now dp.now) }
+fn find(lookup: &mut Lookup<'_>, dp: &InitialDp) -> Result<Found, AllocError>
+    ensures found { IfOk result (λ f. f ≡ found lookup.old dp.now) }
+    ensures same { lookup.new ≡ lookup.old }
 {
     let Some(key) = dp.key else {
         return Ok(Found::Missing);
@@ -34,14 +34,13 @@ fn find(table: &Table, dp: &InitialDp) -> Result<Found, AllocError>
     let Some(called) = dp.called else {
         return Ok(Found::Missing);
     };
-    if key != table.key() {
+    if key != lookup.table().key() {
         return Ok(Found::WrongKey);
     }
-    let Some(record) = table.find(&called) else {
-        return Ok(Found::NoRecord);
-    };
-    let record = SharedRecord::new(record)?;
-    Ok(Found::Record(record))
+    match lookup.find(&called)? {
+        Some(record) => Ok(Found::Record(record)),
+        None => Ok(Found::NoRecord),
+    }
 }
 
 /// The entry for an Invoke that can't be performed, with this problem.
@@ -56,8 +55,9 @@ fn unknown(invoke: &Invoke<'_>, problem: InvokeProblem) -> EntryKind
 }
 
 /// The entry for an Invoke of InitialDP.
-fn initial_dp_kind(table: &Table, invoke: &Invoke<'_>) -> Result<EntryKind, AllocError>
-    ensures { IfOk result (IsInitialDpKind table.now invoke.now.identifier invoke.now.linked (tree_in invoke.now.parameter)) }
+fn initial_dp_kind(lookup: &mut Lookup<'_>, invoke: &Invoke<'_>) -> Result<EntryKind, AllocError>
+    ensures kind { IfOk result (IsInitialDpKind lookup.old invoke.now.identifier invoke.now.linked (tree_in invoke.now.parameter)) }
+    ensures same { lookup.new ≡ lookup.old }
 {
     let Some(argument) = invoke.parameter else {
         return Ok(unknown(invoke, InvokeProblem::MistypedParameter));
@@ -65,7 +65,7 @@ fn initial_dp_kind(table: &Table, invoke: &Invoke<'_>) -> Result<EntryKind, Allo
     let Ok(dp) = initial_dp_in(&argument) else {
         return Ok(unknown(invoke, InvokeProblem::MistypedParameter));
     };
-    let found = find(table, &dp)?;
+    let found = find(lookup, &dp)?;
     Ok(EntryKind::InitialDp {
         identifier: invoke.identifier,
         linked: invoke.linked,
@@ -93,12 +93,13 @@ fn event_kind(invoke: &Invoke<'_>) -> EntryKind
 }
 
 /// The entry for an Invoke.
-fn invoke_kind(table: &Table, invoke: &Invoke<'_>) -> Result<EntryKind, AllocError>
-    ensures { IfOk result (IsInvokeKind table.now invoke.now.identifier invoke.now.linked (code_of invoke.now.code)
+fn invoke_kind(lookup: &mut Lookup<'_>, invoke: &Invoke<'_>) -> Result<EntryKind, AllocError>
+    ensures kind { IfOk result (IsInvokeKind lookup.old invoke.now.identifier invoke.now.linked (code_of invoke.now.code)
         (tree_in invoke.now.parameter)) }
+    ensures same { lookup.new ≡ lookup.old }
 {
     if is_operation(invoke.code, Operation::InitialDp) {
-        return initial_dp_kind(table, invoke);
+        return initial_dp_kind(lookup, invoke);
     }
     if is_operation(invoke.code, Operation::EventReportBcsm) {
         return Ok(event_kind(invoke));
@@ -117,11 +118,12 @@ fn rejected_identifier(reject: &Reject) -> Option<i8>
 }
 
 /// The kind of entry for a component. The only error is out of memory, for one more share of a record.
-pub fn kind_of(table: &Table, component: &Component<'_>) -> Result<EntryKind, AllocError>
-    ensures { IfOk result (IsKind table.now (component_of component.now)) }
+pub fn kind_of(lookup: &mut Lookup<'_>, component: &Component<'_>) -> Result<EntryKind, AllocError>
+    ensures kind { IfOk result (IsKind lookup.old (component_of component.now)) }
+    ensures same { lookup.new ≡ lookup.old }
 {
     match component {
-        Component::Invoke(invoke) => invoke_kind(table, invoke),
+        Component::Invoke(invoke) => invoke_kind(lookup, invoke),
         Component::ReturnResultLast(result) => Ok(EntryKind::Result {
             identifier: result.identifier,
             last: true,

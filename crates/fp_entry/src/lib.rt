@@ -9,6 +9,7 @@
 //!   a refusal with its [`Fault`]; or neither, if memory ran out. Each has its [`Arrival`]: the frame, its moment, the
 //!   index of its table, and the kind and identifiers in its octets.
 //! * [`Entry`] is the unit of input of a dialogue: a moment, and an [`EntryKind`].
+//! * [`Lookup`] is a table for several messages that are read one after another, by [`Prepared::read_with`].
 //! * [`Found`] is the table's answer to the called number of an InitialDP; a [`SharedRecord`] is a share of the record
 //!   itself, and no copy.
 //!
@@ -28,8 +29,8 @@
 //! `specs/Prepared.antt`, and there is no other ([`prepared_is_one`]). The entries of a message follow
 //! `specs/Entries.antt`, and the entry of each component `specs/Component.antt`. Contracts see [`Entries`] as their
 //! list. A copy is equal to its original, and two entries are equal by `==` exactly if they are the same, with records
-//! compared by their rules ([`equal_entries_are_the_same`]). Only [`Prepared::read`], copies, [`Entries::push`] and
-//! [`Entries::append`] take memory.
+//! compared by their rules ([`equal_entries_are_the_same`]). Only [`Prepared::read`] and [`Prepared::read_with`],
+//! copies, [`Entries::push`] and [`Entries::append`] take memory.
 #![tactic(auto)]
 
 mod arrival;
@@ -41,6 +42,7 @@ mod fault;
 mod found;
 mod incoming;
 mod laws;
+mod lookup;
 mod message;
 mod prepared;
 mod shared_record;
@@ -52,5 +54,6 @@ pub use fault::Fault;
 pub use found::Found;
 pub use incoming::Incoming;
 pub use laws::{components_are_counted, equal_entries_are_the_same, prepared_is_one};
+pub use lookup::Lookup;
 pub use prepared::Prepared;
 pub use shared_record::SharedRecord;

@@ -16,6 +16,7 @@ ghost use Rattle.fp_entry.specs.Failure.{IsElementFailure, IsFailure};
 ghost use Rattle.fp_entry.specs.Incoming.{IsIncoming};
 ghost use Rattle.fp_entry.specs.Prepared.{Answers, Brings, IsElement, IsLost, IsPrepared, arrival_of, components_of};
 
+use crate::Lookup;
 use crate::arrival::Arrival;
 use crate::failure::Failure;
 use crate::fault::Fault;
@@ -81,54 +82,57 @@ fn of_message_fault(fault: MessageFault) -> Failure
 /// Reads the message in an element, and gives its entries.
 fn read_element(
     alloc: Global,
-    table: &Table,
+    lookup: &mut Lookup<'_>,
     contexts: &[Name],
     element: &ElementRef<'_>,
     moment: Moment,
 ) -> Result<Incoming, Failure>
     ensures ok { IfOk result (λ incoming. (message : MessageValue) × IsMessage (lent_tree element.now) message
-        × IsIncoming table.now contexts.now moment message incoming) }
+        × IsIncoming lookup.old contexts.now moment message incoming) }
     ensures err { IfErr result (IsElementFailure contexts.now (lent_tree element.now)) }
+    ensures same { lookup.new ≡ lookup.old }
 {
     let message = match message_in(alloc, element) {
         Ok(message) => message,
         Err(fault) => return Err(of_message_fault(fault)),
     };
-    incoming_of(alloc, table, contexts, &message, moment)
+    incoming_of(alloc, lookup, contexts, &message, moment)
 }
 
 /// Reads the message in the element of these nodes, and gives its entries.
 fn read_placed(
     alloc: Global,
-    table: &Table,
+    lookup: &mut Lookup<'_>,
     contexts: &[Name],
     nodes: &[Node<'_>],
     moment: Moment,
 ) -> Result<Incoming, Failure>
     requires { 0 < length nodes.now }
     ensures ok { (octets : List ℕ) → IsElement octets (nodes_tree nodes.now)
-        → IfOk result (Brings table.now contexts.now octets moment) }
+        → IfOk result (Brings lookup.old contexts.now octets moment) }
     ensures err { (octets : List ℕ) → IsElement octets (nodes_tree nodes.now) → IfErr result (IsFailure contexts.now octets) }
+    ensures same { lookup.new ≡ lookup.old }
 {
     let element = ElementRef::of_nodes(nodes);
-    read_element(alloc, table, contexts, &element, moment)
+    read_element(alloc, lookup, contexts, &element, moment)
 }
 
 /// Reads the message in octets, with these places for its nodes, and gives its entries.
 fn read_into<'a>(
     alloc: Global,
-    table: &Table,
+    lookup: &mut Lookup<'_>,
     contexts: &[Name],
     octets: &'a [u8],
     places: &mut [Node<'a>],
     moment: Moment,
 ) -> Result<Incoming, Failure>
     requires { length octets.now ≤ 2 * length places.old }
-    ensures ok { IfOk result (Brings table.now contexts.now octets.now moment) }
+    ensures ok { IfOk result (Brings lookup.old contexts.now octets.now moment) }
     ensures err { IfErr result (IsFailure contexts.now octets.now) }
+    ensures same { lookup.new ≡ lookup.old }
 {
     match read_nodes(octets, places) {
-        Ok(used) => read_placed(alloc, table, contexts, &places[..used], moment),
+        Ok(used) => read_placed(alloc, lookup, contexts, &places[..used], moment),
         Err(NodesFault::Fault(fault)) => Err(of_ber_fault(fault)),
         Err(NodesFault::Full) => unreachable!(),
     }
@@ -137,19 +141,20 @@ fn read_into<'a>(
 /// Reads a message with more than [`FEW`] nodes, and gives its entries.
 fn read_long(
     alloc: Global,
-    table: &Table,
+    lookup: &mut Lookup<'_>,
     contexts: &[Name],
     octets: &[u8],
     moment: Moment,
 ) -> Result<Incoming, Failure>
-    ensures ok { IfOk result (Brings table.now contexts.now octets.now moment) }
+    ensures ok { IfOk result (Brings lookup.old contexts.now octets.now moment) }
     ensures err { IfErr result (IsFailure contexts.now octets.now) }
+    ensures same { lookup.new ≡ lookup.old }
 {
     // An element has at most one node for every two octets.
     let mut places = vec![in alloc; Node::BLANK; octets.len() / 2 + 1]?;
     read_into(
         alloc,
-        table,
+        lookup,
         contexts,
         octets,
         places.as_mut_slice(),
@@ -163,30 +168,32 @@ const FEW: usize = 32;
 /// Reads the message in octets, and gives its entries.
 fn read_octets(
     alloc: Global,
-    table: &Table,
+    lookup: &mut Lookup<'_>,
     contexts: &[Name],
     octets: &[u8],
     moment: Moment,
 ) -> Result<Incoming, Failure>
-    ensures ok { IfOk result (Brings table.now contexts.now octets.now moment) }
+    ensures ok { IfOk result (Brings lookup.old contexts.now octets.now moment) }
     ensures err { IfErr result (IsFailure contexts.now octets.now) }
+    ensures same { lookup.new ≡ lookup.old }
 {
     let mut few = [Node::BLANK; FEW];
     match read_nodes(octets, &mut few) {
-        Ok(used) => read_placed(alloc, table, contexts, &few[..used], moment),
+        Ok(used) => read_placed(alloc, lookup, contexts, &few[..used], moment),
         Err(NodesFault::Fault(fault)) => Err(of_ber_fault(fault)),
-        Err(NodesFault::Full) => read_long(alloc, table, contexts, octets, moment),
+        Err(NodesFault::Full) => read_long(alloc, lookup, contexts, octets, moment),
     }
 }
 
 /// Prepares a frame.
-fn prepare(alloc: Global, table: &Table, contexts: &[Name], arrival: Arrival) -> Prepared
-    ensures { (octets : List ℕ) (moment : ℕ) → IsArrival octets moment arrival
-        → arrival.table ≡ table.now.index → IsPrepared table.now contexts.now octets moment result }
+fn prepare(alloc: Global, lookup: &mut Lookup<'_>, contexts: &[Name], arrival: Arrival) -> Prepared
+    ensures is { (octets : List ℕ) (moment : ℕ) → IsArrival octets moment arrival
+        → arrival.table ≡ lookup.old.index → IsPrepared lookup.old contexts.now octets moment result }
+    ensures same { lookup.new ≡ lookup.old }
 {
     match read_octets(
         alloc,
-        table,
+        lookup,
         contexts,
         arrival.frame.octets(),
         arrival.moment,
@@ -219,13 +226,30 @@ impl Prepared {
         // There is no other result, unless memory runs out.
         ensures only { (other : Prepared) → IsPrepared table.now contexts.now frame moment other → Answers result other }
     {
-        prepared_is_one();
-        prepare(
+        Prepared::read_with(
             alloc,
-            table,
+            &mut Lookup::new(alloc, table),
             contexts,
-            Arrival::new(frame, moment, table.index()),
+            frame,
+            moment,
         )
+    }
+
+    /// Reads the message in a frame as [`Prepared::read`] does, with the table of a look-up that several messages share.
+    pub fn read_with(
+        alloc: Global,
+        lookup: &mut Lookup<'_>,
+        contexts: &[Name],
+        frame: Frame,
+        moment: Moment,
+    ) -> Prepared
+        ensures is { IsPrepared lookup.old contexts.now frame moment result }
+        ensures only { (other : Prepared) → IsPrepared lookup.old contexts.now frame moment other → Answers result other }
+        ensures same { lookup.new ≡ lookup.old }
+    {
+        prepared_is_one();
+        let index = lookup.table().index();
+        prepare(alloc, lookup, contexts, Arrival::new(frame, moment, index))
     }
 
     /// A frame that was received at this moment and isn't read, as if memory had run out. Nothing reads its index of a

@@ -1,8 +1,7 @@
 -- The frames of a link on their way to its book. A frame is the list of its message's octets.
 use Rattle.std.specs.Prelude.{◌≡◌, ℕ, ◌*◌, Bool, true, false, if◌then◌else◌, None, Some, List, [], ◌∷◌, ◌++◌, All, map, min}
 use Rattle.std.specs.declared.option.Option.{Option}
-use Rattle.std.specs.Borrow.{Bor}
-use Rattle.fp_records.specs.declared.table.Table.{Table}
+use Rattle.fp_records.specs.Table.{Contents}
 use Rattle.fp_entry.specs.declared.prepared.Prepared.{Prepared}
 use Rattle.fp_linkstate.specs.declared.arrivals.Reading.{Reading}
 use Rattle.fp_entry.specs.Prepared.{IsLost, IsPrepared, arrival_of}
@@ -40,14 +39,14 @@ with_frames_back messages q =
     record q { frames = frames_of messages ++ q.frames; portion = portion_after messages q.portion }
 
 -- a frame is read by this table, these names and at this moment; without a table it is lost
-abbrev pub IsRead : Option (Bor Table) → List (List ℕ) → ℕ → List ℕ → Prepared → Type 0
-IsRead (Some table) contexts moment frame message = IsPrepared table.now contexts frame moment message
+abbrev pub IsRead : Option Contents → List (List ℕ) → ℕ → List ℕ → Prepared → Type 0
+IsRead (Some contents) contexts moment frame message = IsPrepared contents contexts frame moment message
 IsRead None contexts moment frame message = IsLost frame moment message
 
 -- the frame of this message is read in this way
 abbrev pub IsReadBy : Reading → Prepared → Type 0
 IsReadBy reading message =
-    IsRead reading.table reading.contexts.now reading.moment (arrival_of message).frame message
+    IsRead reading.lookup reading.contexts.now reading.moment (arrival_of message).frame message
 
 -- messages come after these, and each of them is such
 pub record Adds (Is : Prepared → Type 0) (old new : List Prepared) : Type 0 where

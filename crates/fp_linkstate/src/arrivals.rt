@@ -8,20 +8,19 @@ ghost use Rattle.fp_linkstate.specs.Arrivals.{Adds, IsReadBy, KeepsOrder, frames
 
 use fp_apdu::Name;
 use fp_digits::Moment;
-use fp_entry::Prepared;
+use fp_entry::{Lookup, Prepared};
 use fp_frames::Frame;
-use fp_records::Table;
 use std::alloc::{AllocError, Global};
 use std::collections::VecDeque;
 use std::marker::Model;
 
 /// The settings to prepare frames with.
-#[derive(Clone, Copy)]
+#[derive(Drop)]
 pub struct Reading<'x> {
     /// The allocator for the messages.
     pub alloc: Global,
     /// The table that the frames are read with. `None`: memory ran out for it, and the frames are prepared as lost.
-    pub table: Option<&'x Table>,
+    pub lookup: Option<Lookup<'x>>,
     /// The accepted application context names.
     pub contexts: &'x [Name],
     /// The moment of the post.
@@ -30,12 +29,19 @@ pub struct Reading<'x> {
 
 impl Reading<'_> {
     /// Prepares a frame.
-    fn prepare(&self, frame: Frame) -> Prepared
+    fn prepare(&mut self, frame: Frame) -> Prepared
         ensures frame { (arrival_of result).frame ≡ frame }
-        ensures read { IsReadBy self.now result }
+        ensures read { IsReadBy self.old result }
+        ensures same { self.new ≡ self.old }
     {
-        match self.table {
-            Some(table) => Prepared::read(self.alloc, table, self.contexts, frame, self.moment),
+        match &mut self.lookup {
+            Some(lookup) => Prepared::read_with(
+                self.alloc,
+                lookup,
+                self.contexts,
+                frame,
+                self.moment,
+            ),
             None => Prepared::lost(frame, self.moment),
         }
     }
@@ -74,14 +80,15 @@ fn prepare_front(
     frames: &mut VecDeque<Frame>,
     messages: &mut VecDeque<Prepared>,
     portion: usize,
-    reading: &Reading<'_>,
+    reading: &mut Reading<'_>,
 )
     requires room { length messages.old.items + portion ≤ deque_capacity messages.old }
     ensures order { frames_of messages.new.items ++ frames.new.items
         ≡ frames_of messages.old.items ++ frames.old.items }
-    ensures read { Adds (IsReadBy reading.now) messages.old.items messages.new.items }
+    ensures read { Adds (IsReadBy reading.old) messages.old.items messages.new.items }
     ensures few { length messages.new.items ≤ max portion (length messages.old.items) }
     ensures all { (frames.new.items ≡ []) ⊎ (portion ≤ length messages.new.items) }
+    ensures reading { reading.new ≡ reading.old }
 {
     for _count in messages.len()..portion {
         let Some(frame) = frames.pop_front() else {
@@ -158,17 +165,18 @@ impl ArrivalQueue {
     /// allocation fails, nothing changes.
     pub fn prepare(
         &mut self,
-        reading: &Reading<'_>,
+        reading: &mut Reading<'_>,
         messages: &mut VecDeque<Prepared>,
     ) -> Result<(), AllocError>
         ensures order { frames_of messages.new.items ++ self.new.frames
             ≡ frames_of messages.old.items ++ self.old.frames }
-        ensures read { Adds (IsReadBy reading.now) messages.old.items messages.new.items }
+        ensures read { Adds (IsReadBy reading.old) messages.old.items messages.new.items }
         ensures few { length messages.new.items ≤ max self.old.portion (length messages.old.items) }
         ensures most { self.old.portion ≤ Self.MOST }
         ensures all { OnOk result ((self.new.frames ≡ []) ⊎ (self.old.portion ≤ length messages.new.items)) }
         ensures err { OnErr result ((messages.new.items ≡ messages.old.items) × (self.new ≡ self.old)) }
         ensures same { self.new ≡ record self.old { frames = self.new.frames } }
+        ensures reading { reading.new ≡ reading.old }
     {
         messages.reserve(self.portion)?;
         prepare_front(&mut self.frames, messages, self.portion, reading);

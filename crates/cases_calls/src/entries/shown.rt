@@ -262,6 +262,23 @@ fn push_found(table: &Table, found: &Found, out: &mut String) -> anyhow::Result<
     }
 }
 
+/// Writes what the calls of a prepared message find.
+pub(crate) fn push_called(
+    table: &Table,
+    prepared: &Prepared,
+    out: &mut String,
+) -> anyhow::Result<()> {
+    let Prepared::Message { incoming, .. } = prepared else {
+        return push_text(" no message", out);
+    };
+    for entry in incoming.entries.as_slice() {
+        if let EntryKind::InitialDp { found, .. } = &entry.kind {
+            push_found(table, found, out)?;
+        }
+    }
+    Ok(())
+}
+
 /// Writes the called numbers that have a record.
 fn push_record(table: &Table, record: &Record, out: &mut String) -> anyhow::Result<()> {
     out.push_str(" record")?;

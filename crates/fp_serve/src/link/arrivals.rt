@@ -9,7 +9,7 @@ use crate::run::{Event, Service, Stop};
 use crate::system::System;
 use fp_apdu::Name;
 use fp_digits::Moment;
-use fp_entry::Prepared;
+use fp_entry::{Lookup, Prepared};
 use fp_frames::Frame;
 use fp_hub::{Gate, Seat};
 use fp_linkio::{Counted, Ended, Inbox, receive};
@@ -74,8 +74,8 @@ impl<R: System, G: Gate, A: Ledger, B: Ledger, C: Ledger> Arrivals<'_, R, G, A, 
         } = run.service;
         let rt = run.rt;
         let has_newest = tables.refresh(rt, &mut self.table).is_ok();
-        let reading = reading_by(alloc, &self.table, has_newest, contexts, now(rt));
-        if self.queue.prepare(&reading, &mut self.came).is_err() {
+        let mut reading = reading_by(alloc, &self.table, has_newest, contexts, now(rt));
+        if self.queue.prepare(&mut reading, &mut self.came).is_err() {
             self.link.meet(OUT_OF_MEMORY);
         }
         !self.came.is_empty()
@@ -221,10 +221,14 @@ fn reading_by<'r>(
     contexts: &'r [Name],
     moment: Moment,
 ) -> Reading<'r> {
-    let table = if is_newest { Some(table) } else { None };
+    let lookup = if is_newest {
+        Some(Lookup::new(alloc, table))
+    } else {
+        None
+    };
     Reading {
         alloc,
-        table,
+        lookup,
         contexts,
         moment,
     }

@@ -1,4 +1,4 @@
-use Rattle.std.proofs.Common.{rules, sym, subst, List}
+use Rattle.std.proofs.Common.{◌∙◌, rules, sym, subst, List}
 use Rattle.fp_entry.specs.declared.prepared.Prepared.{Prepared}
 use Rattle.fp_linkstate.specs.Arrivals.{Adds, IsReadBy}
 use Rattle.fp_linkstate.proofs.Adding.{adds_one}
@@ -14,7 +14,8 @@ loop-count-preserved c =
     record {
       order = cc (pushed, moved, c.prepare.ensures.frame, c.in-Some.ensures.items, before.order);
       read = subst (λ (l : List Prepared). Adds is_read c.args.messages.now.items l) (sym pushed)
-          (adds_one is_read c.args.messages.now.items c.loop-count.messages.items c.prepare.result before.read c.prepare.ensures.read);
+          (adds_one is_read c.args.messages.now.items c.loop-count.messages.items c.prepare.result before.read (rw before.same at c.prepare.ensures.read));
+      same = c.prepare.ensures.same ∙ before.same;
       count = search rules;
       few = search rules;
       room = search rules;
