@@ -5,6 +5,7 @@ ghost use Rattle.fp_hub.specs.Lines.{KeepsFront};
 ghost use Rattle.fp_hub.specs.Shares.{AreBlanks, after_give, after_post, after_sent, blank};
 
 mod awaiting;
+mod reports;
 mod several;
 
 use crate::hints::HintChannel;
@@ -20,6 +21,7 @@ use fp_digits::Moment;
 use fp_entry::Prepared;
 use fp_row::{Done, Turn};
 use fp_tids::LocalIds;
+pub use reports::Reports;
 use std::alloc::{AllocError, Global};
 use std::sync::atomic::{AtomicBool, Ordering};
 use std::sync::ledger::{Blank, Ledger};

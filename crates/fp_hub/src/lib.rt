@@ -12,7 +12,8 @@
 //! * Four calls make several of these steps in one hold, a bounded number of them, each by one call of the book:
 //!   [`Hub::post_front`] posts messages of one read, each unless it is held back, [`Hub::give_and_take`] takes back
 //!   turns and hands out the share of a worker, [`Hub::serve_front`] serves turns in their places, each by a take and a
-//!   give, and [`Hub::sent_and_next`] takes back a parcel and hands out the next one.
+//!   give, and [`Hub::reports`] holds the lock for up to 64 reports, each of which takes back a parcel and hands out the
+//!   next one.
 //! * [`Kept`] is the state under the lock: the book, and the books of three ledgers (of components accepted, entries
 //!   served and frames sent), whose totals its type keeps equal to the book's.
 //! * `Hold` (`src/hold.rt`) is the lock while it is held. Its release publishes how full the log is.
@@ -28,9 +29,9 @@
 //!
 //! | Thread | Calls | Waits for |
 //! |---|---|---|
-//! | receiving | [`Hub::post_front`], then [`Hub::help`], and [`Hub::pick`], [`Hub::sent_and_next`] or [`Hub::tell_sender`]; [`Hub::exchange_log`] | the socket; room, by [`Hub::await_room`]; at the end of the input quiet, by [`Hub::await_quiet`] |
+//! | receiving | [`Hub::post_front`], then [`Hub::help`], and [`Hub::pick`], [`Hub::reports`] or [`Hub::tell_sender`]; [`Hub::exchange_log`] | the socket; room, by [`Hub::await_room`]; at the end of the input quiet, by [`Hub::await_quiet`] |
 //! | worker | [`Hub::give_and_take`], [`Hub::hint`] if it leaves a dialogue ready, [`Turn::serve`](fp_row::Turn::serve) | a hint |
-//! | sending | [`Hub::await_parcel`], then [`Hub::sent_and_next`] until nothing is left, or [`Hub::unsent`] | a parcel |
+//! | sending | [`Hub::await_parcel`], then [`Hub::reports`] until nothing is left, or [`Hub::unsent`] | a parcel |
 //! | clock | [`Hub::rest`], then [`Hub::tick_and_look`] and [`Hub::hint`], [`Hub::exchange_log`] or [`Hub::drain`] | the time, [`LINES_OF_A_REST`] lines of the log, or the end of the link |
 //!
 //! | Wait | Who wakes it |
@@ -43,8 +44,8 @@
 //! A thread that awaits room looks again each second, and one that awaits quiet has a bound that the caller gives.
 //!
 //! Each of them waits for the lock too, which is held for a bounded number of calls of the book (64 posts, 32 turns
-//! taken back and 32 handed out, 32 served in their places), never while a worker serves a turn, and never while a
-//! frame is sent.
+//! taken back and 32 handed out, 32 served in their places, 64 reports), never while a worker serves a turn, and never
+//! while a socket is written.
 //!
 //! The layer above may rely on this. The book under a lock is sound at each hold (`Sound` of `fp_book`), and each call
 //! of [`Kept`] changes it as the book's call does; one of several steps changes it by the chain of these
@@ -74,7 +75,7 @@ pub use clocked::AfterTick;
 pub use finishing::finish;
 pub use gate::{Gate, OpenGate};
 pub use hints::Hints;
-pub use hub::Hub;
+pub use hub::{Hub, Reports};
 pub use kept::Kept;
 pub use next::{Next, SentAndNext};
 pub use resting::{LINES_OF_A_REST, LINES_OF_A_TEXT};

@@ -1,6 +1,6 @@
 //! A buffer of octets in front of a device.
 
-ghost use Rattle.std.specs.Prelude.{◌≡◌, ◌↔◌, ◌≤◌, [], IfOk, IsTrue, OnOk, drop, length, vec_capacity};
+ghost use Rattle.std.specs.Prelude.{◌≡◌, ◌↔◌, ◌≤◌, ◌+◌, [], IfOk, IsTrue, OnOk, drop, length, vec_capacity};
 ghost use Rattle.std.specs.Io.{WritesAtMost};
 ghost use Rattle.std.specs.Io.KnownBytes.{Keeps, WriteAppends, append_known};
 ghost use Rattle.fp_streams.specs.Device.{CountsFailure, WritesSome};
@@ -8,9 +8,6 @@ ghost use Rattle.fp_streams.specs.Device.{CountsFailure, WritesSome};
 use fp_streams::{DeviceFault, LinkWrite};
 use std::alloc::{AllocError, Global};
 use std::marker::Model;
-
-/// The most octets in the buffer.
-const MOST_GATHERED: usize = 32_768;
 
 /// Removes this number of octets from the front of a list.
 fn drop_front(octets: &mut Vec<u8>, count: usize)
@@ -49,12 +46,15 @@ impl Model for Gathered {
 }
 
 impl Gathered {
+    /// The most octets in the buffer.
+    pub const MOST: usize = 32_768;
+
     /// An empty buffer. The room is allocated here.
     pub fn new(alloc: Global) -> Result<Gathered, AllocError>
         ensures { IfOk result (λ gathered. gathered ≡ []) }
     {
         Ok(Gathered {
-            octets: Vec::with_capacity(alloc, MOST_GATHERED)?,
+            octets: Vec::with_capacity(alloc, Gathered::MOST)?,
         })
     }
 
@@ -66,8 +66,8 @@ impl Gathered {
     }
 
     /// Accepts octets, as [`LinkWrite::write`] does: all of them, unless there are more than 32,768. If there isn't
-    /// enough room left, the buffer is first handed on to the device. If that fails, no octets are accepted. Takes no
-    /// memory.
+    /// enough room left, the buffer is first handed on to the device; else the device isn't called. If that fails, no
+    /// octets are accepted. Takes no memory.
     pub fn write<W: LinkWrite>(
         &mut self,
         device: &mut W,
@@ -77,11 +77,12 @@ impl Gathered {
         ensures some { WritesSome result octets.now }
         ensures octets { WriteAppends (append_known (W.contents device.old) self.old)
             (append_known (W.contents device.new) self.new) result octets.now }
+        ensures room { length self.old + length octets.now ≤ Gathered.MOST → device.new ≡ device.old }
         ensures failure { CountsFailure result (W.failures device.old) (W.failures device.new) }
     {
-        if octets.len() > MOST_GATHERED - self.octets.len() {
+        if octets.len() > Gathered::MOST - self.octets.len() {
             self.hand_on(device)?;
-            if octets.len() > MOST_GATHERED {
+            if octets.len() > Gathered::MOST {
                 return device.write(octets);
             }
         }

@@ -1,11 +1,9 @@
 //! Calls of a hub that make several steps in one hold, a bounded number of them.
 
-ghost use Rattle.std.specs.Prelude.{◌≡◌, ◌≤◌, IfErr};
+ghost use Rattle.std.specs.Prelude.{◌≡◌, ◌≤◌};
 ghost use Rattle.fp_hub.specs.Holds.{CountsPosts, CountsWork};
-ghost use Rattle.fp_hub.specs.Shares.{after_sent};
 
-use crate::{Hub, Seat, SentAndNext, Stopped, Work, Worked};
-use fp_book::Parcel;
+use crate::{Hub, Seat, Stopped, Work, Worked};
 use fp_entry::Prepared;
 use std::alloc::Global;
 use std::collections::VecDeque;
@@ -71,23 +69,5 @@ impl<A: Ledger, B: Ledger, C: Ledger> Hub<A, B, C> {
         }
         self.release_and_wake(hold);
         worked
-    }
-
-    /// Takes back the parcel that was sent, and then hands out the next one, as [`Kept::sent_and_next`]: the seat grows
-    /// as by [`Hub::sent`]. A stale or foreign parcel is returned; you must spend it, as by [`Parcel::abandon`]. Takes
-    /// no memory.
-    pub fn sent_and_next<R: Wait>(
-        &self,
-        rt: &R,
-        seat: &mut Seat<A, B, C>,
-        parcel: Parcel,
-    ) -> SentAndNext
-        ensures same { IfErr result.sent (λ back. back ≡ parcel) }
-        ensures grows { seat.new ≡ after_sent seat.old parcel result.sent }
-    {
-        let mut hold = self.hold(rt);
-        let answer = hold.kept.sent_and_next(seat, parcel);
-        self.release_and_wake(hold);
-        answer
     }
 }

@@ -7,7 +7,7 @@ use crate::moment::time_since;
 use crate::socket::TracedStream;
 use crate::system::System;
 use fp_book::{Parcel, Picked};
-use fp_hub::{Next, Seat, SentAndNext};
+use fp_hub::{Next, Reports, Seat, SentAndNext};
 use fp_linkio::{Counted, DeviceFault, Ended, Gathered, LinkWrite, Outlet, send_loop};
 use fp_linkstate::{LinkEvent, Why};
 use fp_tally::{LinkMetrics, SentCounts};
@@ -72,6 +72,11 @@ impl<R: System> LinkWrite for GatheringSocket<'_, R> {
 struct Departures<'x, R, A: Ledger, B: Ledger, C: Ledger> {
     link: Link<'x, R, A, B, C>,
     seat: &'x mut Seat<A, B, C>,
+    // The lock of the link, if it is held for more reports.
+    reports: Option<Reports<'x, A, B, C>>,
+    // How many octets the buffer has once it has those of the parcel that is handed out. If the buffer had more, the lock
+    // would be held during a write.
+    gathered: usize,
     // A parcel that is handed out already.
     next: Option<Parcel>,
     // How many more parcels may be handed out.
@@ -82,6 +87,14 @@ struct Departures<'x, R, A: Ledger, B: Ledger, C: Ledger> {
     counts: Option<MutexGuard<'x, SentCounts>>,
     // When the message was read whose answer was sent last, if its time is measured.
     answered: Option<Instant>,
+}
+
+/// The number of octets of a parcel, if there is one.
+fn octets_of(parcel: &Option<Parcel>) -> usize {
+    match parcel {
+        Some(parcel) => parcel.octets().len(),
+        None => 0,
+    }
 }
 
 /// The counts of sent messages, if the run has counters.
@@ -95,11 +108,22 @@ fn counts_of<'x, R: Wait>(
     }
 }
 
-impl<R: System, A: Ledger, B: Ledger, C: Ledger> Departures<'_, R, A, B, C> {
-    /// Keeps a parcel until it is picked.
-    fn keep(&mut self, parcel: Parcel) {
+impl<'x, R: System, A: Ledger, B: Ledger, C: Ledger> Departures<'x, R, A, B, C> {
+    /// Keeps a parcel until it is picked. The lock of the link is kept too, unless it had its reports, or the buffer must
+    /// be written before this parcel finds room.
+    fn keep(&mut self, parcel: Parcel, reports: Reports<'x, A, B, C>) {
+        let octets = parcel.octets().len();
+        let all = self.gathered.saturating_add(octets);
+        let has_room = all <= Gathered::MOST;
+        self.gathered = if has_room { all } else { octets };
+        if has_room && !reports.is_spent() {
+            self.reports = Some(reports);
+        } else {
+            drop(reports);
+        }
         if let Some(other) = self.next.replace(parcel) {
             let link = self.link;
+            self.reports = None;
             link.take_back(other);
         }
     }
@@ -130,9 +154,13 @@ impl<R: System, A: Ledger, B: Ledger, C: Ledger> Departures<'_, R, A, B, C> {
         ensures { IfErr result (λ back. back ≡ parcel) }
     {
         let Link { run, hub, .. } = self.link;
-        let SentAndNext { sent, next } = hub.sent_and_next(run.rt, self.seat, parcel);
+        let mut reports = match self.reports.take() {
+            Some(reports) => reports,
+            None => hub.reports(run.rt),
+        };
+        let SentAndNext { sent, next } = reports.sent_and_next(self.seat, parcel);
         match next {
-            Next::Parcel(parcel) => self.keep(parcel),
+            Next::Parcel(parcel) => self.keep(parcel, reports),
             Next::Down | Next::Nothing => self.is_done = true,
         }
         sent
@@ -148,7 +176,10 @@ impl<R: System, A: Ledger, B: Ledger, C: Ledger> Outlet for Departures<'_, R, A,
             return None;
         }
         match self.link.hub.pick(self.link.run.rt) {
-            Picked::Parcel(parcel) => Some(parcel),
+            Picked::Parcel(parcel) => {
+                self.gathered = parcel.octets().len();
+                Some(parcel)
+            }
             Picked::Busy | Picked::Nothing => None,
         }
     }
@@ -157,17 +188,22 @@ impl<R: System, A: Ledger, B: Ledger, C: Ledger> Outlet for Departures<'_, R, A,
         let Link { run, hub, .. } = self.link;
         self.left = self.left.saturating_sub(1);
         self.count(&parcel);
-        // Each parcel adds two lines to the log, and lines are moved only before the next run of parcels.
+        // Each parcel adds two lines to the log, and lines are moved only before the next run of parcels. How full the log
+        // is was seen when the lock was last released, so up to 128 lines may have come since.
         let sent = if self.left == 0 || hub.is_log_nearly_full() {
+            self.reports = None;
             self.sent_last(parcel)
         } else {
             self.sent_and_next(parcel)
         };
-        hub.hint_after_no_room(run.rt);
+        if self.reports.is_none() {
+            hub.hint_after_no_room(run.rt);
+        }
         sent
     }
 
     fn unsent(&mut self, parcel: Parcel) -> Result<(), Parcel> {
+        self.reports = None;
         self.link.hub.unsent(self.link.run.rt, parcel)
     }
 }
@@ -216,6 +252,8 @@ impl<'x, R: System, A: Ledger, B: Ledger, C: Ledger> Link<'x, R, A, B, C> {
         let mut departures = Departures {
             link: self,
             seat,
+            reports: None,
+            gathered: octets_of(&first),
             next: first,
             left: most,
             is_done: most == 0,
@@ -226,12 +264,15 @@ impl<'x, R: System, A: Ledger, B: Ledger, C: Ledger> Link<'x, R, A, B, C> {
         let Departures {
             link: _,
             seat: _,
+            reports,
+            gathered: _,
             next,
             left,
             is_done: _,
             counts,
             answered,
         } = departures;
+        drop(reports);
         if let Some(parcel) = next {
             self.take_back(parcel);
         }

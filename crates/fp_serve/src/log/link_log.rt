@@ -333,7 +333,8 @@ impl<R: System, A: Ledger, B: Ledger, C: Ledger> Link<'_, R, A, B, C> {
     /// some: it waits for that thread only if seven eighths are taken. So the book runs out of places for lines only if
     /// their list has no room either: between two such calls of each thread, fewer than 1,024 lines are added, the last
     /// eighth of the book's places. These are at most 64 lines from each of nine threads, which give back and take up
-    /// to 32 turns, and one for each of 64 messages. If memory runs out, the lines stay where they are.
+    /// to 32 turns, one for each of 64 messages, and two for each of 64 parcels. If memory runs out, the lines stay
+    /// where they are.
     pub(crate) fn move_lines_if_many(&self) {
         if !self.hub.is_log_filling() {
             return;

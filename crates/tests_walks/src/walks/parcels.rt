@@ -140,7 +140,7 @@ pub(super) fn report_in_hold<R: Wait, A: Ledger, B: Ledger, C: Ledger>(
 ) -> &'static str {
     match parcel {
         Some(parcel) => {
-            let SentAndNext { sent, next } = hub.sent_and_next(rt, seat, parcel);
+            let SentAndNext { sent, next } = hub.reports(rt).sent_and_next(seat, parcel);
             say(words, reported_word(sent, "sent"));
             next_word(next, place)
         }
