@@ -35,10 +35,11 @@
 //! ```
 //!
 //! After it posted frames, the receiver helps: it serves the ready turns, up to a bound, and sends the waiting frames
-//! if no other thread does at this moment. So with few calls open it wakes no other thread for them. Frames are
-//! gathered first and then written at once, under a lock, by whichever thread sends.
+//! if no other thread does at this moment. So with few calls open it wakes no other thread for them. While a read may
+//! have more frames it sends for two posts at once. Frames are gathered first and then written at once, under a lock,
+//! by whichever thread sends.
 //!
-//! Once it has sent, the receiver makes the text of the log lines of its link, if 64 wait. Otherwise the clock makes it
+//! After each post the receiver makes the text of the log lines of its link, if 64 wait. Otherwise the clock makes it
 //! once a second, and it is woken if 512 wait; if many do, the other threads move some of them out of the book too.
 //! Only the writing thread waits for the device of the log, and for a bounded time a receiver does.
 //!

@@ -30,11 +30,22 @@ const READS_OF_A_SAMPLE: u8 = 16;
 /// An allocation for frames failed.
 const OUT_OF_MEMORY: LinkEvent = LinkEvent::LoopFault { why: Why::Memory };
 
+/// The parcels that may wait since the last posts, and that the sending thread wasn't woken for.
+#[derive(Clone, Copy, PartialEq, Eq)]
+enum Unsent {
+    /// No parcels.
+    Nothing,
+    /// Parcels of the last post.
+    Some,
+    /// Parcels that are sent with those of the next post.
+    PutOff,
+}
+
 /// The receiving side of a link. Posts all frames of a read to the book, up to 64 per lock hold, then helps to serve
-/// and send. A frame that is held back waits here with those after it, and none is read meanwhile, so that TCP holds
-/// the peer back. If a network carries the link, TCP doesn't do that: then a frame waits for at most a fifth of a
-/// second before it is posted. Each frame is prepared just before it is posted, so that its moment is the moment of the
-/// post; if memory runs out for that, it is posted as lost.
+/// and send; what two posts brought may be sent at once. A frame that is held back waits here with those after it, and
+/// none is read meanwhile, so that TCP holds the peer back. If a network carries the link, TCP doesn't do that: then a
+/// frame waits for at most a fifth of a second before it is posted. Each frame is prepared just before it is posted, so
+/// that its moment is the moment of the post; if memory runs out for that, it is posted as lost.
 #[derive(Drop)]
 struct Arrivals<'x, R, G: Gate, A: Ledger, B: Ledger, C: Ledger> {
     link: Link<'x, R, A, B, C>,
@@ -52,6 +63,8 @@ struct Arrivals<'x, R, G: Gate, A: Ledger, B: Ledger, C: Ledger> {
     hold_back: Option<HoldBack>,
     // Whether the first message was held back and counted as such.
     is_held: bool,
+    // The parcels that may wait, and that the sending thread wasn't woken for.
+    unsent: Unsent,
     // The number of reads before the next sample of an answer's time.
     reads_to_the_sample: u8,
 }
@@ -171,8 +184,32 @@ impl<R: System, G: Gate, A: Ledger, B: Ledger, C: Ledger> Arrivals<'_, R, G, A, 
         }
     }
 
-    /// Posts the frames that were read, and helps to serve them and to send the answers, until none is left.
-    fn post_frames(&mut self) {
+    /// Waits until places for log lines are free, if they may soon run out. The parcels that may wait are sent before.
+    fn await_places(&mut self) {
+        self.link.move_lines_if_many();
+        if self.link.lacks_places() {
+            self.send_or_put_off(false);
+            self.link.await_places(&mut self.log_wait);
+        }
+    }
+
+    /// Sends the parcels that may wait. If the read may have more frames, and no message is held back, those of one post
+    /// are sent with those of the next.
+    fn send_or_put_off(&mut self, may_have_more: bool) {
+        let is_due = !may_have_more || !self.came.is_empty();
+        match self.unsent {
+            Unsent::Nothing => {}
+            Unsent::Some if !is_due => self.unsent = Unsent::PutOff,
+            Unsent::Some | Unsent::PutOff => {
+                self.unsent = Unsent::Nothing;
+                self.send();
+            }
+        }
+    }
+
+    /// Posts the frames that were read, and helps to serve them and to send the answers, until none is left. If
+    /// `may_have_more`, the read may have more frames.
+    fn post_frames(&mut self, may_have_more: bool) {
         let rt = self.link.run.rt;
         if let Some(hold_back) = &mut self.hold_back {
             hold_back.begin(rt);
@@ -182,12 +219,17 @@ impl<R: System, G: Gate, A: Ledger, B: Ledger, C: Ledger> Arrivals<'_, R, G, A, 
                 break;
             }
             let is_aborted = self.post();
-            if self.help() || is_aborted {
-                self.send();
+            let is_queued = self.help();
+            if self.unsent == Unsent::Nothing && (is_aborted || is_queued) {
+                self.unsent = Unsent::Some;
             }
+            self.send_or_put_off(may_have_more);
             self.link.make_own_text();
-            self.link.await_places(&mut self.log_wait);
+            self.await_places();
             self.await_room();
+        }
+        if !may_have_more {
+            self.send_or_put_off(false);
         }
     }
 }
@@ -199,12 +241,12 @@ impl<R: System, G: Gate, A: Ledger, B: Ledger, C: Ledger> Inbox for Arrivals<'_,
             self.link.meet(OUT_OF_MEMORY);
         }
         if self.queue.is_full() {
-            self.post_frames();
+            self.post_frames(true);
         }
     }
 
     fn end_of_read(&mut self) {
-        self.post_frames();
+        self.post_frames(false);
         self.log_wait.renew(self.link.run.log);
         self.reads_to_the_sample = self.reads_to_the_sample.saturating_sub(1);
         if let Some(hold_back) = &mut self.hold_back {
@@ -287,6 +329,7 @@ impl<'x, R: System, A: Ledger, B: Ledger, C: Ledger> Link<'x, R, A, B, C> {
                 None
             },
             is_held: false,
+            unsent: Unsent::Nothing,
             reads_to_the_sample: 0,
         };
         let mut reader = Counted::new(link.traced_stream());

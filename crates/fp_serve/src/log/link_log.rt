@@ -116,14 +116,14 @@ impl Moved {
 
 /// The lines of a link that wait for the thread that writes the log, in the order of its steps.
 ///
-/// The receiving thread of the link makes the text of its lines once it has sent. The clock makes the text of lines
-/// that have waited for a second, or of many at once. So the writing thread, the only one of the run, only has to
-/// write; it takes all text at once. Lines whose text is made leave the book by an exchange of two lists. If the book
-/// is filling, any thread that serves calls moves lines to those that wait; their text is made first then. Of these
-/// threads only the receiving one makes text. No lock is held while the device of the log is written, and the lock for
-/// moving lines isn't held while text is made; the lock of the link is taken under both. If the device takes nothing
-/// for long, or memory runs out, lines stay here, and then in the book of the link. The book counts lines that find no
-/// place in a gap. Each gap is reported as an event.
+/// The receiving thread of the link makes the text of its lines after each post. The clock makes the text of lines that
+/// have waited for a second, or of many at once. So the writing thread, the only one of the run, only has to write; it
+/// takes all text at once. Lines whose text is made leave the book by an exchange of two lists. If the book is filling,
+/// any thread that serves calls moves lines to those that wait; their text is made first then. Of these threads only
+/// the receiving one makes text. No lock is held while the device of the log is written, and the lock for moving lines
+/// isn't held while text is made; the lock of the link is taken under both. If the device takes nothing for long, or
+/// memory runs out, lines stay here, and then in the book of the link. The book counts lines that find no place in a
+/// gap. Each gap is reported as an event.
 #[derive(Drop)]
 pub(crate) struct LinkLog {
     // The text; this lock is taken before the lock of the waiting lines.

@@ -88,13 +88,9 @@ impl DeviceProgress {
 }
 
 impl<R: System, A: Ledger, B: Ledger, C: Ledger> Link<'_, R, A, B, C> {
-    /// Makes text of lines while places for lines may soon run out, and waits while there is no room for their text and
-    /// the device of the log makes progress. In any case moves lines out of the book, if it has many.
+    /// Makes text of lines until places for lines are free, and waits while there is no room for their text and the
+    /// device of the log makes progress.
     pub(crate) fn await_places(&self, wait: &mut LogWait) {
-        self.move_lines_if_many();
-        if !self.lacks_places() {
-            return;
-        }
         let Run { rt, log, .. } = *self.run;
         let start = Instant::now(rt).ok();
         let mut progress = DeviceProgress::new(rt, log);
