@@ -12,12 +12,16 @@ use std::marker::Model;
 /// The number of octets of a head.
 const HEAD: usize = 4;
 
+/// The least room to make at once, in octets. For example, it holds about 300 frames of 51 octets.
+const LEAST_ROOM: usize = 16_384;
+
 /// The frames of a stream of octets, however it is cut into pieces. Contracts see the octets that were fed and not yet
 /// handed out.
 ///
-/// [`FrameReader::feed`] copies the octets. It copies a begun frame once more if there is no room after it. A frame
-/// that was handed out shares this memory, and keeps the memory of its neighbours alive as long as it lives. After a
-/// bad length the rest of the stream can't be read: each further call of [`FrameReader::next`] reports it again.
+/// [`FrameReader::feed`] copies the octets. It copies a begun frame once more if there is no room after it, and makes
+/// room for at least 16,384 octets then. A frame that was handed out shares this memory, and keeps the memory of its
+/// neighbours alive as long as it lives. After a bad length the rest of the stream can't be read: each further call of
+/// [`FrameReader::next`] reports it again.
 #[derive(Drop)]
 pub struct FrameReader {
     octets: BytesMut,
@@ -46,6 +50,9 @@ impl FrameReader {
         ensures ok { OnOk result (self.new ≡ self.old ++ piece.now) }
         ensures err { OnErr result (self.new ≡ self.old) }
     {
+        if self.octets.capacity() - self.octets.len() < piece.len() {
+            self.octets.reserve(piece.len().max(LEAST_ROOM))?;
+        }
         self.octets.extend_from_slice(piece)
     }
 
