@@ -1,5 +1,5 @@
 -- One dialogue of a link changes, comes or goes: what its book keeps then.
-use Rattle.fp_book.proofs.Names.{AreBorn, Bool, Closed, IsOwn, IsSame, List, None, Option, Outbox, Row, Shelf, Some, Sound, Totals, [], accepted_by, add-zero, all_entries, and_right, ap, arith, base, base_of, cases_Bool, cond, cond_both, count_by, eqb, eqb-true, false, frames_for, frames_held, frames_of, gone_with, has_turn_out, identifier, is_admitted, is_free, is_held, is_ready, is_some, keep, kept_of, le_refl, length, length-append, link_with_tag, ltb-false, most_aborts_waiting, most_dialogues, most_places, nat_lt, nat_tests, not, of_row, one_if, or_parts, places_held, ready_count, refl, sent_by, sent_of, served_by, subst, sum_of, sym, take, true, turns_of, unsent_for, unsent_frames, waits, with_row, ℕ, ⊎_elim, ◌++◌, ◌+◌, ◌<◌, ◌^◌, ◌||◌, ◌∙◌, ◌∷◌, ◌≡◌, ◌≤◌, ◌*◌}
+use Rattle.fp_book.proofs.Names.{AreBorn, Bool, Closed, IsOwn, IsSame, List, None, Option, Outbox, Row, Shelf, Some, Sound, Totals, [], accepted_by, add-zero, all_entries, and_right, ap, arith, base, base_of, cases_Bool, cond, cond_both, count_by, eqb, eqb-true, false, frames_for, frames_held, frames_of, gone_with, has_turn_out, identifier, is_admitted, is_free, is_held, is_ready, is_some, keep, kept_of, le_refl, length, length-append, link_with_tag, ltb-false, most_aborts_waiting, most_dialogues, most_places, nat_lt, nat_tests, not, of_row, one_if, or_parts, places_held, ready_count, refl, sent_by, sent_of, served_by, subst, sum_of, sym, take, true, turns_of, unsent_for, unsent_frames, waits, with_row, ℕ, ⊎_elim, ◌++◌, ◌+◌, ◌<◌, ◌||◌, ◌∙◌, ◌∷◌, ◌≡◌, ◌≤◌, ◌*◌}
 use Rattle.std.specs.FinMap as map
 use Rattle.fp_book.proofs.Serials.{SerialsChange}
 use Rattle.fp_book.proofs.Sums.{OneChanges, Rows, amount, kept, left_of, len-sum}

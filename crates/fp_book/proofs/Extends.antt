@@ -1,6 +1,6 @@
 -- Messages that dialogues accept, that open one or end one, and dialogues that are closed: all that keeps what a book
 -- keeps.
-use Rattle.fp_book.proofs.Names.{AreBorn, AreSerials, Bool, ByPeer, Closed, ClosesDialogue, Content, Ending, Ends, EndsDialogue, Entry, Extends, ExtendsDialogue, FramesStay, IsSame, List, LoggedStep, None, OpensDialogue, Option, Posted, Prepared, Request, Row, Shelf, Some, Sound, Tid, [], all_entries, and_left, and_right, ap, append-nil, append_assoc, arith, base, being_sent, component_count, cond, ended_by, entries_in, eqb, false, false≢true, frame_of, frame_out, frames_for, frames_of, has_turn_out, identifier, is_admitted, is_closed, is_frame_of, is_held, is_over, is_ready, is_some, joins, kept_of, le_refl, length, length-append, length-map, length-take-le, logged, more_accepted, most_dialogues, most_elements, most_places, nat_lt, not, octets_of, one_if, option_map_or, or_cases, or_left, or_right, posted_line, ready_stays, refl, requests_of, sending, sent_of, subst, sum_of, sym, take, take-append-le, take_all, true, turns_of, unsent_for, unsent_frames, waits, with_dialogue, with_row, without, without_frames_of, zero-add, ℕ, ⊎_elim, ◌&&◌, ◌++◌, ◌+◌, ◌<◌, ◌^◌, ◌||◌, ◌∙◌, ◌∷◌, ◌≡◌, ◌≤◌, ◌⊎◌, ◌*◌}
+use Rattle.fp_book.proofs.Names.{AreBorn, AreSerials, Bool, ByPeer, Closed, ClosesDialogue, Content, Ending, Ends, EndsDialogue, Entry, Extends, ExtendsDialogue, FramesStay, IsSame, List, LoggedStep, None, OpensDialogue, Option, Posted, Prepared, Request, Row, Shelf, Some, Sound, Tid, [], all_entries, and_left, and_right, ap, append-nil, append_assoc, arith, base, being_sent, component_count, cond, ended_by, entries_in, eqb, false, false≢true, frame_of, frame_out, frames_for, frames_of, has_turn_out, identifier, is_admitted, is_closed, is_frame_of, is_held, is_over, is_ready, is_some, joins, kept_of, le_refl, length, length-append, length-map, length-take-le, logged, more_accepted, most_dialogues, most_elements, nat_lt, not, octets_of, one_if, option_map_or, or_cases, or_left, or_right, posted_line, ready_stays, refl, requests_of, sending, sent_of, subst, sum_of, sym, take, take-append-le, take_all, true, turns_of, unsent_for, unsent_frames, waits, with_dialogue, with_row, without, without_frames_of, zero-add, ℕ, ⊎_elim, ◌&&◌, ◌++◌, ◌+◌, ◌<◌, ◌||◌, ◌∙◌, ◌∷◌, ◌≡◌, ◌≤◌, ◌⊎◌, ◌*◌}
 use Rattle.fp_book.proofs.LowerLaws.{LowerLaws}
 use Rattle.std.specs.FinMap as map
 use Rattle.fp_book.proofs.Born.{born_append, born_back, born_fewer, born_front, born_none, none_unsent}

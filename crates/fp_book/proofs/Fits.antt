@@ -1,5 +1,5 @@
 -- What the verdict on a message has made sure of.
-use Rattle.fp_book.proofs.Names.{Abort, Arrival, Begin, Bool, Continue, Discard, End, Extend, Fault, Ids, Incoming, Kind, Lost, Message, None, Open, Option, Prepared, Refuse, Refused, Rule, Shelf, Some, Tid, Unidirectional, Verdict, ap, arith, arrival_of, cond, cond_both, entries_in, eqb-false, facts_with, false, first_that_fits, inl, inr, is_admitted, is_full, lacks_room, leb-false, leb-true, length, ltb-false, named, nat_eq, nat_le, nat_lt, not, not-true, number_of, octets_of, option_and_then, option_map_or, or_parts, place_count, refl, rules_up, subst, too_many, true, verdict, verdict_by, ℕ, ⊤, ◌+◌, ◌<◌, ◌^◌, ◌||◌, ◌∙◌, ◌≡◌, ◌≢◌, ◌≤◌, ◌⊎◌, most_dialogues, all_entries, most_unserved, most_elements}
+use Rattle.fp_book.proofs.Names.{Abort, Arrival, Begin, Bool, Continue, Discard, End, Extend, Fault, Ids, Incoming, Kind, Lost, Message, None, Open, Option, Prepared, Refuse, Refused, Rule, Shelf, Some, Tid, Unidirectional, Verdict, ap, arith, arrival_of, cond, cond_both, entries_in, eqb-false, facts_with, false, first_that_fits, inl, inr, is_admitted, is_full, lacks_room, leb-false, leb-true, length, ltb-false, named, nat_eq, nat_le, nat_lt, not, not-true, number_of, octets_of, option_and_then, option_map_or, or_parts, place_count, refl, rules_up, subst, too_many, true, verdict, verdict_by, ℕ, ⊤, ◌+◌, ◌<◌, ◌||◌, ◌∙◌, ◌≡◌, ◌≢◌, ◌≤◌, ◌⊎◌, most_dialogues, all_entries, most_unserved, most_elements}
 use Rattle.std.specs.FinMap as map
 use Rattle.fp_book.proofs.Tells.{names_by}
 use Rattle.fp_q773.specs.declared.provider_abort.AbortCause.TheVariants as cause

@@ -1,5 +1,5 @@
 -- What a book keeps if one of its dialogues changes, and what a call may rely on.
-use Rattle.fp_book.proofs.Names.{AreTimed, Changes, HasRoom, Inside, IsKept, List, LoggedStep, None, Option, Outbox, Row, Shelf, Some, Sound, Totals, accepted_by, all_entries, ap, arith, cond, deadline_at, deadline_of, eq-eqb, eqb, false, gone_of, has_clock, inl, inr, is_admitted, is_ready, is_some, length, link_with_tag, most_dialogues, most_places, nat_cmp, next_due, not, one_if, refl, sent_by, served_by, shelf_of, subst, sum_of, sym, turns_of, with_deadline, ℕ, ◌&&◌, ◌+◌, ◌-◌, ◌<◌, ◌^◌, ◌∙◌, ◌≡◌, ◌≤◌, ◌*◌}
+use Rattle.fp_book.proofs.Names.{AreTimed, Changes, HasRoom, Inside, IsKept, List, LoggedStep, None, Option, Outbox, Row, Shelf, Some, Sound, Totals, accepted_by, all_entries, ap, arith, cond, deadline_at, deadline_of, eq-eqb, eqb, false, gone_of, has_clock, inl, inr, is_admitted, is_ready, is_some, length, link_with_tag, most_dialogues, most_places, nat_cmp, next_due, not, one_if, refl, sent_by, served_by, shelf_of, subst, sum_of, sym, turns_of, with_deadline, ℕ, ◌&&◌, ◌+◌, ◌-◌, ◌<◌, ◌∙◌, ◌≡◌, ◌≤◌, ◌*◌}
 use Rattle.std.specs.FinMap as map
 use Rattle.fp_book.proofs.Changes.{by_held, by_local, not_held, one_if_most, ready, turns_left}
 use Rattle.fp_book.proofs.Sums.{OneChanges, Rows, amount, get-inserted, get-removed, inserted, kept, left_of, len-sum, removed, sum-le, sum-zero, sums-le, zero_of}

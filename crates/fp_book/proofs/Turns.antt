@@ -1,5 +1,5 @@
 -- To hand out a turn, and to take it back, keeps what a book keeps.
-use Rattle.fp_book.proofs.Names.{AreBorn, AsksOnceAtMost, Bool, Changes, Closed, Done, Ending, Entry, FramesStay, Given, GivesDone, HandsOut, HandsOutAt, Inside, IsEmptyIfNone, IsKept, IsSame, IsServed, List, LoggedStep, Memory, NoRoom, None, Nothing, Option, PutsTurnBack, Requested, Row, Shelf, Some, Sound, Taken, Takes, TakesTurn, Turn, [], accepted_by, and_left, and_parts, ap, append-nil, append_assoc, arith, being_sent, component_count, cond, count_by-le-length, eqb, false, false≢true, frame_out, frames_for, frames_in, has_turn_out, is_admitted, is_from_component, is_held, is_over, is_ready, is_some, joins, kept_of, le_refl, length, length-append, length-take-le, logged, min, more_served, most_entries, nat_lt, nat_tests, not, not-true, of_row, one_if, option_to_list, or_left, or_right, places_held, ready_count, refl, request_count, requested_of, sent_of, serial_of, slice_get, start_of, subst, sum_by-append, sum_of, sym, take, true, turn_out, turns_of, unsent_for, unsent_frames, waiting_in, waiting_of, waits, with_dialogue, with_row, ℕ, ◌&&◌, ◌++◌, ◌+◌, ◌-◌, ◌<◌, ◌*◌, ◌^◌, ◌∙◌, ◌∷◌, ◌≡◌, ◌≤◌, most_dialogues, most_places, all_entries}
+use Rattle.fp_book.proofs.Names.{AreBorn, AsksOnceAtMost, Bool, Changes, Closed, Done, Ending, Entry, FramesStay, Given, GivesDone, HandsOut, HandsOutAt, Inside, IsEmptyIfNone, IsKept, IsSame, IsServed, List, LoggedStep, Memory, NoRoom, None, Nothing, Option, PutsTurnBack, Requested, Row, Shelf, Some, Sound, Taken, Takes, TakesTurn, Turn, [], accepted_by, and_left, and_parts, ap, append-nil, append_assoc, arith, being_sent, component_count, cond, count_by-le-length, eqb, false, false≢true, frame_out, frames_for, frames_in, has_turn_out, is_admitted, is_from_component, is_held, is_over, is_ready, is_some, joins, kept_of, le_refl, length, length-append, length-take-le, logged, min, more_served, most_entries, nat_lt, nat_tests, not, not-true, of_row, one_if, option_to_list, or_left, or_right, places_held, ready_count, refl, request_count, requested_of, sent_of, serial_of, slice_get, start_of, subst, sum_by-append, sum_of, sym, take, true, turn_out, turns_of, unsent_for, unsent_frames, waiting_in, waiting_of, waits, with_dialogue, with_row, ℕ, ◌&&◌, ◌++◌, ◌+◌, ◌-◌, ◌<◌, ◌*◌, ◌∙◌, ◌∷◌, ◌≡◌, ◌≤◌, most_dialogues, most_places, all_entries}
 use Rattle.fp_book.proofs.LowerLaws.{LowerLaws}
 use Rattle.std.specs.FinMap as map
 use Rattle.fp_book.proofs.Changes.{CountsChange, OutboxChanges, QueueChanges, Sound-change, admitted, count, count_is, link_stays, one_most, own_after, ready, still_apart}

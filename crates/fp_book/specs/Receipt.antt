@@ -1,7 +1,7 @@
 -- What a post reports of its message, beside what became of it.
 use Rattle.std.specs.Prelude.{◌≡◌, ℕ, Bool, true, false}
 use Rattle.fp_book.specs.declared.answers.Posted.{Posted}
-use Rattle.fp_book.specs.declared.answers.Posted.TheVariants.{Opened, Accepted, Aborted, Ended, Discarded}
+use Rattle.fp_book.specs.declared.answers.Posted.TheVariants.{Opened, Accepted}
 use Rattle.fp_book.specs.declared.answers.Receipt.{Receipt}
 use Rattle.fp_book.specs.Calls.{Follows, asks_for_memory}
 use Rattle.fp_book.specs.Rules.{verdict}

@@ -1,6 +1,6 @@
 -- A number as people read it: decimal digits, with a comma before each three of them from the end on, as 1,234,567; and a
 -- rate a second.
-use Rattle.std.specs.Prelude.{ℕ, zero, suc, List, ◌++◌, ◌+◌, ◌*◌, ◌/◌, ◌%◌, ◌==◌, Bool, ◌&&◌, codes, decimal, nat_lt, if◌then◌else◌}
+use Rattle.std.specs.Prelude.{ℕ, zero, suc, List, ◌++◌, ◌+◌, ◌*◌, ◌/◌, ◌%◌, ◌==◌, ◌&&◌, codes, decimal, nat_lt, if◌then◌else◌}
 use Rattle.fp_counters.specs.Counted.{capped}
 
 -- three digits of a number below 1,000, with zeros before it

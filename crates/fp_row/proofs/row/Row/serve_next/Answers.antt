@@ -1,4 +1,4 @@
-use Rattle.std.proofs.Common.{rules, arith, ◌+◌, ◌≡◌, ◌≤◌, length, take, refl, sym, ap, subst}
+use Rattle.std.proofs.Common.{rules, arith, ◌+◌, ◌≤◌, length, take, refl, sym, ap, subst}
 use Rattle.fp_row.proofs.Next.{Next, at_once, between, done, hands_out, next_entries}
 use Rattle.fp_row.proofs.Served.{Served, all_kept, core_is, count_out, cut_is, few_frames, few_served, frames_are, kept_frames, queued_few, queued_fits, queued_frames, sent_frames, served_within, waiting_then}
 use Rattle.fp_row.specs.proof_only.Serving.{AreAll}

@@ -1,4 +1,4 @@
-use Rattle.std.proofs.Common.{Some, [], ap, arith, deque_capacity, drop, option_to_list, sym, ◌*◌, ◌++◌, ◌+◌, ◌∙◌, ◌∷◌, ◌≡◌, ◌≤◌, ◌^◌}
+use Rattle.std.proofs.Common.{Some, [], ap, arith, deque_capacity, drop, option_to_list, sym, ◌++◌, ◌+◌, ◌∙◌, ◌∷◌, ◌≡◌, ◌≤◌}
 use Rattle.std.proofs.lemmas.List.{nil_from_length}
 use Rattle.fp_tids.specs.Identifiers.{base_of, first_of, serials_above}
 use Rattle.fp_tids.proofs.Serials.{fresh_front, kept_taken, none_fresh, taken_within}

@@ -1,4 +1,4 @@
-use Rattle.std.proofs.Common.{None, Some, ap, arith, deque_capacity, slice_get, sym, ◌*◌, ◌+◌, ◌∙◌, ◌≡◌, ◌≤◌, ◌^◌}
+use Rattle.std.proofs.Common.{None, Some, ap, arith, deque_capacity, slice_get, sym, ◌+◌, ◌∙◌, ◌≡◌, ◌≤◌}
 use Rattle.fp_tids.specs.Identifiers.{base_of, first_of}
 use Rattle.fp_tids.proofs.Serials.{first_is, first_within, fresh_front, none_fresh}
 use Rattle.fp_tids.proofs.local_ids.LocalIds.next.Goals as goal
