@@ -65,9 +65,9 @@ impl Gathered {
         self.octets.is_empty()
     }
 
-    /// Accepts octets, as [`LinkWrite::write`] does: all of them, unless there are more than 32,768. If there isn't
-    /// enough room left, the buffer is first handed on to the device; else the device isn't called. If that fails, no
-    /// octets are accepted. Takes no memory.
+    /// Accepts octets, as [`LinkWrite::write`] does: all of them, unless there are more than 32,768. If there is room
+    /// for them, the device isn't called. Else the buffer is first handed on to it, and if that fails, no octets are
+    /// accepted. Takes no memory.
     pub fn write<W: LinkWrite>(
         &mut self,
         device: &mut W,
