@@ -67,7 +67,7 @@ comes_reads Nothing setting history place octets old new more (is, places, link,
     ap (λ places. reader_of (connection_at places.items place)) places
 comes_reads Skipped setting history place octets old new more (is, places, link, skips) =
     ap (λ places. reader_of (connection_at places.items place)) places
-comes_reads (Active unit) setting history place octets old new more (earlier, events, comes, is, link, only, skips, active) =
+comes_reads (Active unit) setting history place octets old new more (earlier, events, comes, is, link, only, skips) =
     only_reads Replaced earlier place old new only
 comes_reads UnitData setting history place octets old new more (outcome, receives, link, here, others, skips) =
     ap reader_of here ∙ answer_reads outcome (connection_in old place)

@@ -116,14 +116,14 @@ pub record Followed (old : Node) (octets : List ℕ) (new : Node) : Type 0 where
   pub names : new.names.items ≡ old.names.items
   pub draining : new.is_draining ≡ old.is_draining
   pub count : length new.places.items ≡ length old.places.items
-  pub counted : Counts old new
+  pub counted : Counts [] old new
   pub skipped : SkipsNone old new
 
 -- one more is
 pub followed_more : (old mid next new : Node) (octets message : List ℕ) → Followed old octets mid
     → Begins mid.from_link message next.from_link → next.places ≡ mid.places → next.adaptor ≡ mid.adaptor → next.to_link ≡ mid.to_link
     → next.names.items ≡ mid.names.items → next.is_draining ≡ mid.is_draining → next.tally ≡ mid.tally → next.news ≡ mid.news → LeavesLink next new → WaitsOn next new
-    → Counts next new → SkipsNone next new → ((setting : Setting) (before : List Event) → Led next.adaptor setting before → Forwards setting before message next new)
+    → Counts [] next new → SkipsNone next new → ((setting : Setting) (before : List Event) → Led next.adaptor setting before → Forwards setting before message next new)
     → Followed old octets new
 followed_more old mid next new octets message so begins places own link names draining tally news leaves rest counted skipped forward = record {
   forwards = (

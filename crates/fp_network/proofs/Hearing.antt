@@ -19,7 +19,6 @@ use Rattle.fp_network.specs.declared.event.Closing.{Closing}
 use Rattle.fp_network.specs.declared.node.Node.{Node}
 use Rattle.fp_network.specs.Changes.{closing, is_slow, sending, sending_if}
 use Rattle.fp_network.specs.Course.{closing_of}
-use Rattle.fp_network.specs.Counting.{ReportsActive}
 use Rattle.fp_network.specs.Endings.{Activates}
 use Rattle.fp_network.specs.Node.{LeavesOthers, connection_in, ended_at, ended_unless, for_link, is_over_at}
 use Rattle.fp_network.specs.Receiving.{EndsAt, HearsEach, NextIf, NextIn, NextOrEnd, OnlyAt, Results, SkipsNone, Steps, TakesMessage, feeding, reader_of}
@@ -108,11 +107,11 @@ closed_event place old new setting history stays tells =
 -- it is active for a unit
 pub results_active : (unit place : ℕ) (octets : List ℕ) (old new : Node) → for_link new ≡ for_link old → SkipsNone old new
     → ((setting : Setting) (history : List Event) → Led old.adaptor setting history → Activates place unit old setting history new)
-    → ReportsActive unit place old new → Results place octets (Active unit) old new
-results_active unit place octets old new link skips activates active setting history led =
+    → Results place octets (Active unit) old new
+results_active unit place octets old new link skips activates setting history led =
     let so = activates setting history led in (
       ended_at old so.0 ++ so.1,
-      (so.0, so.1, so.2, refl, link, so.4, skips, active),
+      (so.0, so.1, so.2, refl, link, so.4, skips),
       subst (λ (l : List Event). Led new.adaptor setting l) (sym (append_assoc (ended_at old so.0) so.1 history)) so.3,
     )
 

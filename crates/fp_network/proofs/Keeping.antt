@@ -174,7 +174,7 @@ tied_comes Nothing setting history place octets old new more (is, places, link, 
     subst (λ (l : List Event). IsTied new (l ++ history)) (sym is) (tied_lives old new history (lives_places old new places) tied)
 tied_comes Skipped setting history place octets old new more (is, places, link, skips) lives tied =
     subst (λ (l : List Event). IsTied new (l ++ history)) (sym is) (tied_lives old new history (lives_places old new places) tied)
-tied_comes (Active unit) setting history place octets old new more (earlier, events, comes, is, link, only, skips, active) lives tied =
+tied_comes (Active unit) setting history place octets old new more (earlier, events, comes, is, link, only, skips) lives tied =
     subst (λ (l : List Event). IsTied new (l ++ history)) (sym is)
     (subst (λ (l : List Event). IsTied new l) (sym (append_assoc (ended_at old earlier) events history))
     (tied_only Replaced earlier old new (events ++ history) only (tied_came place unit earlier old setting history events comes lives tied)))

@@ -1,21 +1,9 @@
 -- Events that weren't returned are still the next ones, and those of a call follow them.
-use Rattle.std.proofs.Common.{◌≡◌, ◌≤◌, ℕ, cond, List, [], ◌∷◌, ◌++◌, Ok, Err, OnErr, Result, is_ok, length, length-append, append_assoc, append-nil, arith, inl, inr, refl, sym, subst, ap, ◌∙◌}
-use Rattle.std.proofs.lemmas.List.Elements.{Contains-append_cases, Contains-append_left, Contains-append_right, Contains-push_cases}
-use Rattle.std.specs.List.{Contains}
+use Rattle.std.proofs.Common.{◌≡◌, ◌≤◌, ℕ, cond, List, [], ◌∷◌, ◌++◌, Ok, Err, OnErr, Result, is_ok, length, length-append, append_assoc, append-nil, arith, inl, inr, refl, sym, ap, ◌∙◌}
 use Rattle.std.specs.VecDeque.{deque_capacity}
 use Rattle.fp_network.specs.declared.event.NetworkEvent.{NetworkEvent}
 use Rattle.fp_network.specs.declared.node.Node.{Node}
-use Rattle.fp_network.specs.Counting.{AreSome, NewsGrow, Notes, Reports}
-
--- no event is one of none, and one of a single one is that
-pub none_of : (event : NetworkEvent) → Contains [] event → ⊥
-none_of event is = omega (arith, is.1)
-
-pub one_of : (event one : NetworkEvent) → Contains (one ∷ []) event → one ≡ event
-one_of event one is = elim (Contains-push_cases [] one event is) [
-  | inl none ↦ absurd (none_of event none)
-  | inr same ↦ same
-]
+use Rattle.fp_network.specs.Counting.{AreSome, NewsGrow, Notes}
 
 -- no event is added
 unfoldable pub news_same : (old new : Node) → new.news ≡ old.news → NewsGrow old new
@@ -29,10 +17,6 @@ pub notes_none : (old new : Node) → new.news ≡ old.news → Notes [] old new
 unfolding news_same
 notes_none old new same = record { grows = news_same old new same; some = tt; all = inl refl }
 
-pub same_silent : (event : NetworkEvent) (old new : Node) (same : new.news ≡ old.news) → Contains (news_same old new same).more event → ⊥
-unfolding news_same
-same_silent event old new same among = none_of event among
-
 unfoldable pub news_then : (old mid new : Node) → NewsGrow old mid → NewsGrow mid new → NewsGrow old new
 news_then old mid new first then = record {
   more = first.more ++ then.more;
@@ -42,41 +26,6 @@ news_then old mid new first then = record {
 
 news_longer : (mid new : Node) → NewsGrow mid new → length mid.news.items ≤ length new.news.items
 news_longer mid new then = let is = ap length then.grow ∙ length-append mid.news.items then.more in omega (arith, is)
-
--- one of those of the events that are there
-pub among_some : (event : NetworkEvent) (some events : List NetworkEvent) → AreSome some events → Contains some event → Contains events event
-among_some event [] events are is = absurd (none_of event is)
-among_some event (one ∷ some) [] are is = absurd are
-among_some event (one ∷ some) (first ∷ events) are is = elim are [
-  | inl same ↦ elim (Contains-append_cases (one ∷ []) some event is) [
-    | inl here ↦ (0, omega arith, sym same.0 ∙ one_of event one here)
-    | inr on ↦ Contains-append_right (first ∷ []) events event (among_some event some events same.1 on)
-  ]
-  | inr on ↦ Contains-append_right (first ∷ []) events event (among_some event (one ∷ some) events on is)
-]
-
--- an event of the first of two calls, or of the second one
-pub reports_first : (event : NetworkEvent) (some : List NetworkEvent) (old mid new : Node) (then : NewsGrow mid new) → Reports event some old mid
-    → Reports event (some ++ then.more) old new
-reports_first event some old mid new then so = elim so [
-  | inl is ↦ inl (Contains-append_left some then.more event is)
-  | inr full ↦ inr (let long = news_longer mid new then in omega (arith, full, long))
-]
-
-pub reports_then : (event : NetworkEvent) (some : List NetworkEvent) (old mid new : Node) (first : NewsGrow old mid) → Reports event some mid new
-    → Reports event (first.more ++ some) old new
-reports_then event some old mid new first so = elim so [
-  | inl is ↦ inl (Contains-append_right first.more some event is)
-  | inr full ↦ inr (let room = first.room in omega (arith, full, room))
-]
-
--- an event of a call that adds these
-pub reports_noted : (event : NetworkEvent) (events : List NetworkEvent) (old new : Node) (notes : Notes events old new) → Contains events event
-    → Reports event notes.grows.more old new
-reports_noted event events old new notes is = elim notes.all [
-  | inl same ↦ inl (subst (λ (more : List NetworkEvent). Contains more event) (sym same) is)
-  | inr full ↦ inr full
-]
 
 -- an event is added, or memory ran out for it
 pub noted : {T E : Type 0} (event : NetworkEvent) (old new : Node) (result : Result T E) (count : ℕ) → count ≡ length old.news.items

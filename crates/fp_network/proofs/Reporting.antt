@@ -1,5 +1,5 @@
 -- Each connection that a loop through all places closes is reported, in the order of the places.
-use Rattle.std.proofs.Common.{◌≡◌, ◌≤◌, ◌<◌, ℕ, ◌+◌, zero, suc, Bool, true, false, List, Option, Some, None, [], ◌∷◌, ◌++◌, append-nil, append_assoc, arith, inl, inr, length, refl, sym, subst, ap, ◌∙◌}
+use Rattle.std.proofs.Common.{◌≡◌, ◌≤◌, ◌<◌, ℕ, ◌+◌, zero, suc, Bool, true, false, List, Some, [], ◌∷◌, ◌++◌, append-nil, append_assoc, arith, inl, inr, length, refl, sym, subst, ap, ◌∙◌}
 use Rattle.std.proofs.lemmas.Bool.{cases_Bool}
 use Rattle.std.specs.List.{flat_map, range_with_len}
 use Rattle.std.specs.Option.{option_map}
@@ -9,12 +9,11 @@ use Rattle.fp_network.specs.declared.event.NetworkEvent.{NetworkEvent}
 use Rattle.fp_network.specs.declared.event.NetworkEvent.TheVariants.{Gone}
 use Rattle.fp_network.specs.declared.node.Node.{Node}
 use Rattle.fp_network.specs.Changes.{closing}
-use Rattle.fp_network.specs.Counting.{Notes, ReportsEach, gone_at, gone_below, gone_for, gone_if, number_of}
-use Rattle.fp_network.specs.Course.{closing_of}
+use Rattle.fp_network.specs.Counting.{Notes, ReportsEach, gone_at, gone_below, gone_if, number_of}
 use Rattle.fp_network.specs.Node.{LeavesOthers, connection_in, is_over_at, is_over_of}
 use Rattle.fp_network.proofs.Changing.{Changing}
 use Rattle.fp_network.proofs.News.{notes_none, notes_then}
-use Rattle.fp_network.proofs.Tallied.{gone_is, none_if}
+use Rattle.fp_network.proofs.Tallied.{gone_is, gone_none}
 
 -- one connection may be closed
 pub notes_one : (why : Closing) (place : ℕ) (old new : Node) → connection_in new place ≡ option_map (closing why) (connection_in old place)
@@ -31,14 +30,9 @@ notes_one why place old new here silent reports = elim (cases_Bool (is_over_at o
 ]
 
 -- or none is
-kept_is : (over : Bool) (own : Option Connection) → is_over_of own ≡ over → gone_if over own ≡ []
-kept_is true own is = refl
-kept_is false None is = refl
-kept_is false (Some own) is = ap (gone_for own.number) (none_if (closing_of own.course) is)
-
 pub notes_kept : (place : ℕ) (node : Node) → Notes (gone_at node node place) node node
 notes_kept place node =
-    subst (λ (events : List NetworkEvent). Notes events node node) (sym (kept_is (is_over_at node place) (connection_in node place) refl))
+    subst (λ (events : List NetworkEvent). Notes events node node) (sym (gone_none (is_over_at node place) (connection_in node place) refl))
     (notes_none node node refl)
 
 -- the events of one more place follow those of the places before it

@@ -1,32 +1,33 @@
 -- Each connection that is closed is counted once.
-use Rattle.std.proofs.Common.{◌≡◌, ℕ, zero, suc, ◌<◌, Bool, true, false, not, ◌&&◌, nat_eq, List, [], ◌∷◌, Option, Some, None, arith, inl, inr, length, is_some, slice_get, refl, sym, subst, ap, ◌∙◌}
+use Rattle.std.proofs.Common.{◌≡◌, ℕ, zero, suc, ◌+◌, ◌<◌, ◌≤◌, Bool, true, false, nat_eq, List, [], ◌∷◌, ◌++◌, Option, Some, None, append-nil, append_assoc, arith, inl, inr, length, is_some, slice_get, refl, sym, subst, ap, ◌∙◌}
 use Rattle.std.proofs.lemmas.Bool.{cases_Bool, cases_lt, eqb-false, eqb-true, false≢true}
 use Rattle.std.proofs.lemmas.List.{get_or_past}
-use Rattle.std.proofs.lemmas.List.Elements.{Contains-append_cases, Contains-push}
+use Rattle.std.proofs.lemmas.List.Sorted.{IsPermutation-append, IsPermutation-append_comm, IsPermutation-append_left, IsPermutation-append_right, IsPermutation-refl, IsPermutation-sym, IsPermutation-trans}
 use Rattle.std.proofs.lemmas.Option.{none-some}
-use Rattle.std.specs.List.{Contains}
+use Rattle.std.specs.List.{flat_map, range_with_len}
+use Rattle.std.specs.List.Sorted.{IsPermutation}
 use Rattle.std.specs.Option.{option_map}
-use Rattle.fp_adaptor.specs.Counted.{one_more}
 use Rattle.fp_ipa.specs.declared.message.IpaMessage.{IpaMessage}
 use Rattle.fp_ipa.specs.declared.stream_identifier.StreamIdentifier.{StreamIdentifier}
 use Rattle.fp_network.specs.declared.arrival.Arrival.{Arrival}
+use Rattle.fp_network.specs.declared.arrival.Arrival.TheVariants as arrivals
 use Rattle.fp_network.specs.declared.connection.Connection.{Connection}
 use Rattle.fp_network.specs.declared.course.Course.{Course}
 use Rattle.fp_network.specs.declared.course.Course.TheVariants.{Open, Draining, Shut, Over}
 use Rattle.fp_network.specs.declared.event.Closing.{Closing}
 use Rattle.fp_network.specs.declared.event.NetworkEvent.{NetworkEvent}
-use Rattle.fp_network.specs.declared.event.NetworkEvent.TheVariants.{Gone}
+use Rattle.fp_network.specs.declared.event.NetworkEvent.TheVariants.{Active, Gone}
 use Rattle.fp_network.specs.declared.node.Node.{Node}
 use Rattle.fp_network.specs.declared.tally.Tally.{Tally}
 use Rattle.fp_network.specs.Changes.{closing, is_slow, sending, sending_if}
-use Rattle.fp_network.specs.Counting.{Counts, NewsGrow, Notes, ReportsActive, active_for, active_of, closes_for, counted_below, counted_if, course_at, course_of, gone_at, gone_for, gone_if, is_reason, number_of, reason_of}
+use Rattle.fp_network.specs.Counting.{AreActive, Counts, CountsActive, Notes, active_by, active_for, active_of, counted_for, course_at, course_of, gone_at, gone_below, gone_for, gone_if, number_of}
 use Rattle.fp_network.specs.Course.{closed, closing_of}
 use Rattle.fp_network.specs.Node.{LeavesOthers, connection_at, connection_in, is_over_at, is_over_of}
 use Rattle.fp_network.specs.Receiving.{NextIf, NextIn, feeding}
 use Rattle.fp_network.specs.Stepping.{ArrivesIf, ArrivesIn}
 use Rattle.fp_network.specs.Tally.{closed_once_more, closings_of}
 use Rattle.fp_network.proofs.First.{same_some}
-use Rattle.fp_network.proofs.News.{among_some, news_same, news_then, none_of, one_of, reports_first, reports_noted, reports_then, same_silent}
+use Rattle.fp_network.proofs.News.{notes_none, notes_then}
 
 -- the number of a connection and how far it is from its end, if there is one
 abbrev pub progress_of : Option Connection → Option (ℕ × Course)
@@ -67,13 +68,6 @@ abbrev why_by : Option Course → Option Closing
 why_by None = None
 why_by (Some course) = closing_of course
 
-why_is : (own : Option Connection) → reason_of own ≡ why_by (course_of own)
-why_is None = refl
-why_is (Some own) = refl
-
-why_same : (one other : Option Connection) → course_of one ≡ course_of other → reason_of one ≡ reason_of other
-why_same one other same = why_is one ∙ ap why_by same ∙ sym (why_is other)
-
 -- and its number doesn't change
 abbrev number_by : Option (ℕ × Course) → Option ℕ
 number_by None = None
@@ -90,10 +84,6 @@ pub none_if : (why : Option Closing) → is_some why ≡ false → why ≡ None
 none_if None is = refl
 none_if (Some why) is = absurd (false≢true (sym is))
 
-why_none : (own : Option Connection) → is_over_of own ≡ false → reason_of own ≡ None
-why_none None lives = refl
-why_none (Some own) lives = none_if (closing_of own.course) lives
-
 -- the event of a connection that is closed depends on its number and its course, and there is none of any other one
 gone_as : (over : Bool) (one other : Option Connection) → number_of one ≡ number_of other → course_of one ≡ course_of other
     → gone_if over one ≡ gone_if over other
@@ -102,107 +92,82 @@ gone_as false None None number course = refl
 gone_as false None (Some other) number course = absurd (none-some _ number)
 gone_as false (Some one) None number course = absurd (none-some _ (sym number))
 gone_as false (Some one) (Some other) number course =
-    λ i. gone_for (same_some one.number other.number number i) (why_same (Some one) (Some other) course i)
+    λ i. gone_for (same_some one.number other.number number i) (ap why_by course i)
 
-gone_over : (over : Bool) (own : Option Connection) (event : NetworkEvent) → gone_if over own ≡ event ∷ []
-    → (over ≡ false) × (is_over_of own ≡ true)
-gone_over true own event is = absurd (let none = ap length is in omega (arith, none))
-gone_over false None event is = absurd (let none = ap length is in omega (arith, none))
-gone_over false (Some own) event is = (refl, by (closing_of own.course) is)
-  where
-    by : (why : Option Closing) → gone_for own.number why ≡ event ∷ [] → is_some why ≡ true
-    by None is = absurd (let none = ap length is in omega (arith, none))
-    by (Some why) is = refl
+-- there is none of one that isn't to be closed, or was before
+pub gone_none : (over : Bool) (own : Option Connection) → is_over_of own ≡ over → gone_if over own ≡ []
+gone_none true own is = refl
+gone_none false None is = refl
+gone_none false (Some own) is = ap (gone_for own.number) (none_if (closing_of own.course) is)
 
--- which of the places are counted decides alone
-below_none : (upto count : ℕ) (are : ℕ → Bool) → ((place : ℕ) → place < upto → are place ≡ false) → counted_below upto are count ≡ count
-below_none zero count are none = refl
-below_none (suc upto) count are none =
-    ap (λ (is : Bool). counted_if is (counted_below upto are count)) (none upto (omega arith))
-    ∙ below_none upto count are (λ place below. none place (omega (arith, below)))
+-- which of the places have an event decides alone
+none_each : (f : ℕ → List NetworkEvent) (places : List ℕ) → ((place : ℕ) → f place ≡ []) → flat_map f places ≡ []
+none_each f [] none = refl
+none_each f (place ∷ places) none = λ i. none place i ++ none_each f places none i
 
-below_one : (upto place count : ℕ) (are : ℕ → Bool) → place < upto → ((other : ℕ) → (other ≡ place → ⊥) → are other ≡ false)
-    → counted_below upto are count ≡ counted_if (are place) count
-below_one zero place count are below none = absurd (omega (arith, below))
-below_one (suc upto) place count are below none =
-    elim (cases_lt place upto) [
-      | inl less ↦ ap (λ (is : Bool). counted_if is (counted_below upto are count)) (none upto (λ is. absurd (omega (arith, is, less))))
-          ∙ below_one upto place count are less none
-      | inr above ↦ at (omega (arith, below, above))
-    ]
-  where
-    at : place ≡ upto → counted_below (suc upto) are count ≡ counted_if (are place) count
-    at is =
-        subst (λ (here : ℕ). counted_below (suc upto) are count ≡ counted_if (are here) count) (sym is)
-        (ap (counted_if (are upto)) (below_none upto count are (λ other less. none other (λ same. absurd (omega (arith, same, is, less))))))
+none_past : (f : ℕ → List NetworkEvent) (place first count : ℕ) → place < first → ((other : ℕ) → (other ≡ place → ⊥) → f other ≡ [])
+    → flat_map f (range_with_len first count) ≡ []
+none_past f place first zero past none = refl
+none_past f place first (suc count) past none =
+    λ i. none first (λ is. absurd (omega (arith, is, past))) i ++ none_past f place (first + 1) count (omega (arith, past)) none i
 
--- in which order they are counted doesn't matter
-one_if : (is : Bool) (count : ℕ) → counted_if is (one_more count) ≡ one_more (counted_if is count)
-one_if true count = refl
-one_if false count = refl
+one_each : (f : ℕ → List NetworkEvent) (place first count : ℕ) → first ≤ place → place < first + count
+    → ((other : ℕ) → (other ≡ place → ⊥) → f other ≡ []) → flat_map f (range_with_len first count) ≡ f place
+one_each f place first zero from below none = absurd (omega (arith, from, below))
+one_each f place first (suc count) from below none = elim (cases_lt first place) [
+  | inl less ↦ λ i.
+      none first (λ is. absurd (omega (arith, is, less))) i
+      ++ one_each f place (first + 1) count (omega (arith, less)) (omega (arith, below)) none i
+  | inr above ↦
+      let is : first ≡ place = omega (arith, from, above) in
+      (λ i. f (is i) ++ none_past f place (first + 1) count (omega (arith, above)) none i) ∙ append-nil (f place)
+]
 
-below_more_by_one : (upto count : ℕ) (are : ℕ → Bool) → counted_below upto are (one_more count) ≡ one_more (counted_below upto are count)
-below_more_by_one zero count are = refl
-below_more_by_one (suc upto) count are =
-    ap (counted_if (are upto)) (below_more_by_one upto count are) ∙ one_if (are upto) (counted_below upto are count)
+-- in which order they are doesn't matter
+swap_inner : (a b c d : List NetworkEvent) → IsPermutation ((a ++ b) ++ (c ++ d)) ((a ++ c) ++ (b ++ d))
+swap_inner a b c d =
+    subst (λ (l : List NetworkEvent). IsPermutation l ((a ++ c) ++ (b ++ d))) (sym (append_assoc a b (c ++ d)))
+    (subst (IsPermutation (a ++ (b ++ (c ++ d)))) (sym (append_assoc a c (b ++ d)))
+    (IsPermutation-append_right a (b ++ (c ++ d)) (c ++ (b ++ d))
+    (subst (λ (l : List NetworkEvent). IsPermutation l (c ++ (b ++ d))) (append_assoc b c d)
+    (subst (IsPermutation ((b ++ c) ++ d)) (append_assoc c b d)
+    (IsPermutation-append_left d (b ++ c) (c ++ b) (IsPermutation-append_comm b c))))))
 
-below_if : (is : Bool) (upto count : ℕ) (are : ℕ → Bool) → counted_below upto are (counted_if is count) ≡ counted_if is (counted_below upto are count)
-below_if true upto count are = below_more_by_one upto count are
-below_if false upto count are = refl
+each_then : (first then all : ℕ → List NetworkEvent) (places : List ℕ) → ((place : ℕ) → first place ++ then place ≡ all place)
+    → IsPermutation (flat_map first places ++ flat_map then places) (flat_map all places)
+each_then first then all [] each = IsPermutation-refl []
+each_then first then all (place ∷ places) each =
+    IsPermutation-trans _ _ _ (swap_inner (first place) (flat_map first places) (then place) (flat_map then places))
+    (subst (λ (here : List NetworkEvent).
+    IsPermutation ((first place ++ then place) ++ (flat_map first places ++ flat_map then places)) (here ++ flat_map all places)) (each place)
+    (IsPermutation-append_right (first place ++ then place) _ _ (each_then first then all places each)))
 
-below_then : (upto count : ℕ) (first then all : ℕ → Bool)
-    → ((place count : ℕ) → counted_if (then place) (counted_if (first place) count) ≡ counted_if (all place) count)
-    → counted_below upto then (counted_below upto first count) ≡ counted_below upto all count
-below_then zero count first then all each = refl
-below_then (suc upto) count first then all each =
-    ap (counted_if (then upto)) (below_if (first upto) upto (counted_below upto first count) then)
-    ∙ each upto (counted_below upto then (counted_below upto first count))
-    ∙ ap (counted_if (all upto)) (below_then upto count first then all each)
+counted_then : (why : Closing) (events others : List NetworkEvent) (count : ℕ)
+    → counted_for why (events ++ others) count ≡ counted_for why others (counted_for why events count)
+counted_then why [] others count = refl
+counted_then why (Gone number other ∷ events) others count = counted_then why events others (closed_once_more other why count)
+counted_then why (event ∷ events) others count = counted_then why events others count
 
--- a connection is counted in one of two calls
-counted_then : (why : Closing) (old mid : Bool) (is then : Option Closing) (count : ℕ) → (old ≡ true → mid ≡ true) → (mid ≡ false → is ≡ None)
-    → (mid ≡ true → then ≡ is)
-    → counted_if (not mid && is_reason why then) (counted_if (not old && is_reason why is) count) ≡ counted_if (not old && is_reason why then) count
-counted_then why true true is then count over none same = refl
-counted_then why true false is then count over none same = absurd (false≢true (over refl))
-counted_then why false true is then count over none same = ap (λ (r : Option Closing). counted_if (is_reason why r) count) (sym (same refl))
-counted_then why false false is then count over none same =
-    ap (λ (r : Option Closing). counted_if (is_reason why then) (counted_if (is_reason why r) count)) (none refl)
-
-pub counts_more : (old mid new : Node) → length mid.places.items ≡ length old.places.items → Counts old mid → Counts mid new → Counts old new
-unfolding news_then
-counts_more old mid new long first then = record {
+pub counts_more : {active more : List NetworkEvent} (old mid new : Node) → length mid.places.items ≡ length old.places.items
+    → Counts active old mid → Counts more mid new → Counts (active ++ more) old new
+counts_more {active} {more} old mid new long first then = record {
+  events = first.events ++ then.events;
+  news = notes_then first.events then.events old mid new first.news then.news;
+  once =
+      IsPermutation-trans _ _ _ (IsPermutation-append_right (active ++ more) _ _ (IsPermutation-sym _ _ gones))
+      (IsPermutation-trans _ _ _ (swap_inner active more _ _)
+      (IsPermutation-append _ _ _ _ first.once
+      (subst (λ (count : ℕ). IsPermutation (more ++ gone_below count mid new) then.events) long then.once)));
   each = λ why.
-      then.each why
-      ∙ ap (λ (n : ℕ). counted_below n (closes_for why mid new) (closings_of mid.tally why)) long
-      ∙ ap (counted_below (length old.places.items) (closes_for why mid new)) (first.each why)
-      ∙ below_then (length old.places.items) (closings_of old.tally why) (closes_for why old mid) (closes_for why mid new) (closes_for why old new)
-      (λ place count. counted_then why (is_over_at old place) (is_over_at mid place) (reason_of (connection_in mid place))
-      (reason_of (connection_in new place)) count (over_mid place) (why_none (connection_in mid place))
-      (why_on place));
+      then.each why ∙ ap (counted_for why then.events) (first.each why)
+      ∙ sym (counted_then why first.events then.events (closings_of old.tally why));
   stay = λ place over. then.stay place (over_mid place over) ∙ first.stay place over;
   connections = then.connections ∙ first.connections;
   numbers = λ place. then.numbers place ∙ first.numbers place;
-  news = news_then old mid new first.news then.news;
-  reported = λ place event so. elim (cases_Bool (is_over_at mid place)) [
-    | inl over ↦ reports_first event first.news.more old mid new then.news (first.reported place event (first_gone place over ∙ so))
-    | inr lives ↦ reports_then event then.news.more old mid new first.news (then.reported place event (then_gone place lives ∙ so))
-  ];
-  only = λ number why among. elim (Contains-append_cases first.news.more then.news.more (Gone number why) among) [
-    | inl is ↦
-        let so = first.only number why is in
-        (so.0, sym (first_gone so.0 (gone_over _ _ _ so.1).1) ∙ so.1)
-    | inr is ↦
-        let so = then.only number why is in
-        (so.0, sym (then_gone so.0 (gone_over _ _ _ so.1).0) ∙ so.1)
-  ];
 }
   where
     over_mid : (place : ℕ) → is_over_at old place ≡ true → is_over_at mid place ≡ true
     over_mid place over = over_of_course (connection_in mid place) (connection_in old place) (first.stay place over) ∙ over
-
-    why_on : (place : ℕ) → is_over_at mid place ≡ true → reason_of (connection_in new place) ≡ reason_of (connection_in mid place)
-    why_on place over = why_same (connection_in new place) (connection_in mid place) (then.stay place over)
 
     lived : (place : ℕ) → is_over_at mid place ≡ false → is_over_at old place ≡ false
     lived place lives = elim (cases_Bool (is_over_at old place)) [
@@ -210,42 +175,61 @@ counts_more old mid new long first then = record {
       | inr before ↦ before
     ]
 
-    first_gone : (place : ℕ) → is_over_at mid place ≡ true → gone_at old mid place ≡ gone_at old new place
-    first_gone place over = gone_as (is_over_at old place) _ _ (sym (then.numbers place)) (sym (then.stay place over))
+    gone_then : (place : ℕ) → gone_at old mid place ++ gone_at mid new place ≡ gone_at old new place
+    gone_then place = elim (cases_Bool (is_over_at mid place)) [
+      | inl over ↦
+          (λ i. gone_at old mid place ++ gone_if (over i) (connection_in new place)) ∙ append-nil (gone_at old mid place)
+          ∙ gone_as (is_over_at old place) _ _ (sym (then.numbers place)) (sym (then.stay place over))
+      | inr lives ↦
+          (λ i.
+          gone_none (is_over_at old place) (connection_in mid place) (lives ∙ sym (lived place lives)) i
+          ++ gone_if ((lives ∙ sym (lived place lives)) i) (connection_in new place))
+    ]
 
-    then_gone : (place : ℕ) → is_over_at mid place ≡ false → gone_at mid new place ≡ gone_at old new place
-    then_gone place lives = ap (λ (over : Bool). gone_if over (connection_in new place)) (lives ∙ sym (lived place lives))
+    gones : IsPermutation (gone_below (length old.places.items) old mid ++ gone_below (length old.places.items) mid new)
+        (gone_below (length old.places.items) old new)
+    gones = each_then (gone_at old mid) (gone_at mid new) (gone_at old new) (range_with_len 0 (length old.places.items)) gone_then
+
+-- and messages follow others
+active_then : (events more : List NetworkEvent) → AreActive events → AreActive more → AreActive (events ++ more)
+active_then [] more are then = then
+active_then (Active number unit ∷ events) more are then = active_then events more are then
+active_then (event ∷ events) more are then = absurd are
+
+pub counts_on : (old mid new : Node) → length mid.places.items ≡ length old.places.items → CountsActive old mid → CountsActive mid new
+    → CountsActive old new
+counts_on old mid new long (active, are, first) (more, on, then) =
+    (active ++ more, active_then active more are on, counts_more old mid new long first then)
 
 -- nothing is closed
-unless_over : (why : Closing) (over : Bool) (is : Option Closing) → (over ≡ false → is ≡ None) → (not over && is_reason why is) ≡ false
-unless_over why true is none = refl
-unless_over why false is none = ap (is_reason why) (none refl)
+counted_none : (why : Closing) (events : List NetworkEvent) (count : ℕ) → AreActive events → counted_for why events count ≡ count
+counted_none why [] count are = refl
+counted_none why (Active number unit ∷ events) count are = counted_none why events count are
+counted_none why (event ∷ events) count are = absurd are
 
-not_closed : (why : Closing) (old new : Node) (place : ℕ) → course_at new place ≡ course_at old place → closes_for why old new place ≡ false
-not_closed why old new place same =
-    unless_over why (is_over_at old place) (reason_of (connection_in new place))
-    (λ lives. why_same (connection_in new place) (connection_in old place) same ∙ why_none (connection_in old place) lives)
-
-pub counts_same : (old new : Node) → ((why : Closing) → closings_of new.tally why ≡ closings_of old.tally why)
-    → new.tally.connections ≡ old.tally.connections → CoursesStay old new → (news : NewsGrow old new)
-    → ((number : ℕ) (why : Closing) → Contains news.more (Gone number why) → ⊥) → Counts old new
-counts_same old new tally connections same news silent = record {
-  each = λ why.
-      tally why
-      ∙ sym (below_none (length old.places.items) (closings_of old.tally why) (closes_for why old new)
-      (λ place below. not_closed why old new place (courses place)));
+pub counts_same : (events : List NetworkEvent) (old new : Node)
+    → ((why : Closing) → closings_of new.tally why ≡ closings_of old.tally why) → new.tally.connections ≡ old.tally.connections
+    → CoursesStay old new → Notes events old new → AreActive events → Counts events old new
+counts_same events old new tally connections same notes are = record {
+  events = events;
+  news = notes;
+  once =
+      subst (λ (l : List NetworkEvent). IsPermutation l events)
+      (sym ((λ i. events ++ none_each (gone_at old new) (range_with_len 0 (length old.places.items)) none i) ∙ append-nil events))
+      (IsPermutation-refl events);
+  each = λ why. tally why ∙ sym (counted_none why events (closings_of old.tally why) are);
   stay = λ place over. courses place;
   connections = connections;
   numbers = λ place. number_same (connection_in new place) (connection_in old place) (same place);
-  news = news;
-  reported = λ place event so.
-      let is = gone_over _ _ event so in
-      absurd (false≢true (sym is.0 ∙ sym (over_of_course (connection_in new place) (connection_in old place) (courses place)) ∙ is.1));
-  only = λ number why among. absurd (silent number why among);
 }
   where
     courses : (place : ℕ) → course_at new place ≡ course_at old place
     courses place = course_same (connection_in new place) (connection_in old place) (same place)
+
+    none : (place : ℕ) → gone_at old new place ≡ []
+    none place =
+        gone_none (is_over_at old place) (connection_in new place)
+        (over_of_course (connection_in new place) (connection_in old place) (courses place))
 
 -- the connection in one place has another course, or not
 pub courses_at : (place : ℕ) (old new : Node) → progress_of (connection_in new place) ≡ progress_of (connection_in old place)
@@ -295,67 +279,60 @@ courses_arrived names drains stream octets (Some old) new arrival so =
 
 -- a call changes the connection in one place, but not its course, and counts none
 pub counts_at : (place : ℕ) (old new : Node) → progress_of (connection_in new place) ≡ progress_of (connection_in old place)
-    → LeavesOthers place old new → new.tally ≡ old.tally → new.news ≡ old.news → Counts old new
+    → LeavesOthers place old new → new.tally ≡ old.tally → new.news ≡ old.news → Counts [] old new
 counts_at place old new here others tally news =
-    counts_same old new (λ why. ap (λ (t : Tally). closings_of t why) tally) (ap (λ (t : Tally). t.connections) tally)
-    (courses_at place old new here others) (news_same old new news) (λ number why. same_silent (Gone number why) old new news)
+    counts_same [] old new (λ why. ap (λ (t : Tally). closings_of t why) tally) (ap (λ (t : Tally). t.connections) tally)
+    (courses_at place old new here others) (notes_none old new news) tt
 
 -- a call changes no connection, and counts none
-pub counts_places : (old new : Node) → new.places ≡ old.places → new.tally ≡ old.tally → (news : NewsGrow old new)
-    → ((number : ℕ) (why : Closing) → Contains news.more (Gone number why) → ⊥) → Counts old new
-counts_places old new places tally =
-    counts_same old new (λ why. ap (λ (t : Tally). closings_of t why) tally) (ap (λ (t : Tally). t.connections) tally)
+counts_places : (events : List NetworkEvent) (old new : Node) → new.places ≡ old.places → new.tally ≡ old.tally → Notes events old new
+    → AreActive events → Counts events old new
+counts_places events old new places tally =
+    counts_same events old new (λ why. ap (λ (t : Tally). closings_of t why) tally) (ap (λ (t : Tally). t.connections) tally)
     (λ place. ap (λ places. progress_of (connection_at places.items place)) places)
 
-pub counts_none : (old new : Node) → new.places ≡ old.places → new.tally ≡ old.tally → new.news ≡ old.news → Counts old new
-counts_none old new places tally news = counts_places old new places tally (news_same old new news) (λ number why. same_silent (Gone number why) old new news)
+pub counts_none : (old new : Node) → new.places ≡ old.places → new.tally ≡ old.tally → new.news ≡ old.news → Counts [] old new
+counts_none old new places tally news = counts_places [] old new places tally (notes_none old new news) tt
 
 -- the event of a connection that is active reports none over
-abbrev reason_in : NetworkEvent → Option Closing
-reason_in (Gone number why) = Some why
-reason_in event = None
+are_active_for : (number : ℕ) (named : Option (List ℕ)) → AreActive (active_for number named)
+are_active_for number None = tt
+are_active_for number (Some unit) = tt
 
-active_for_stays : (event : NetworkEvent) (why : Closing) (number : ℕ) (named : Option (List ℕ)) → reason_in event ≡ Some why
-    → Contains (active_for number named) event → ⊥
-active_for_stays event why number None gone among = none_of event among
-active_for_stays event why number (Some unit) gone among = none-some _ (ap reason_in (one_of event _ among) ∙ gone)
+are_active : (names : List (List ℕ)) (unit : ℕ) (own : Option Connection) → AreActive (active_of names unit own)
+are_active names unit None = tt
+are_active names unit (Some own) = are_active_for own.number (slice_get names unit)
 
-active_stays : (event : NetworkEvent) (why : Closing) (names : List (List ℕ)) (unit : ℕ) (own : Option Connection) → reason_in event ≡ Some why
-    → Contains (active_of names unit own) event → ⊥
-active_stays event why names unit None gone among = none_of event among
-active_stays event why names unit (Some own) gone among = active_for_stays event why own.number (slice_get names unit) gone among
-
-pub counts_active : (names : List (List ℕ)) (unit : ℕ) (own : Option Connection) (old new : Node) → new.places ≡ old.places
-    → new.tally ≡ old.tally → Notes (active_of names unit own) old new → Counts old new
-counts_active names unit own old new places tally notes =
-    counts_places old new places tally notes.grows (λ number why among.
-    active_stays (Gone number why) why names unit own refl
-    (among_some (Gone number why) notes.grows.more (active_of names unit own) notes.some among))
+pub are_active_by : (arrival : Arrival) (names : List (List ℕ)) (own : Option Connection) → AreActive (active_by arrival names own)
+are_active_by (arrivals.Active unit) names own = are_active names unit own
+are_active_by arrivals.Nothing names own = tt
+are_active_by arrivals.Skipped names own = tt
+are_active_by arrivals.UnitData names own = tt
+are_active_by (arrivals.Close why) names own = tt
 
 -- the event hangs on the number of the connection alone, so that it is reported after others
-active_by : List (List ℕ) → ℕ → Option ℕ → List NetworkEvent
-active_by names unit None = []
-active_by names unit (Some number) = active_for number (slice_get names unit)
+active_of_number : List (List ℕ) → ℕ → Option ℕ → List NetworkEvent
+active_of_number names unit None = []
+active_of_number names unit (Some number) = active_for number (slice_get names unit)
 
-active_is : (names : List (List ℕ)) (unit : ℕ) (own : Option Connection) → active_of names unit own ≡ active_by names unit (number_of own)
-unfolding active_by
+active_is : (names : List (List ℕ)) (unit : ℕ) (own : Option Connection) → active_of names unit own ≡ active_of_number names unit (number_of own)
+unfolding active_of_number
 active_is names unit None = refl
 active_is names unit (Some own) = refl
 
-pub active_then : (unit place : ℕ) (old mid new : Node) → mid.names.items ≡ old.names.items → Counts old mid
-    → Notes (active_of mid.names.items unit (connection_in mid place)) mid new → ReportsActive unit place old new
-unfolding news_then
-active_then unit place old mid new names counts notes = record {
-  news = news_then old mid new counts.news notes.grows;
-  reported = λ event is. reports_then event notes.grows.more old mid new counts.news
-      (reports_noted event (active_of mid.names.items unit (connection_in mid place)) mid new notes
-      (subst (λ (events : List NetworkEvent). Contains events event) (sym same) is));
-}
+pub counts_active : (unit place : ℕ) (old mid new : Node) → mid.names.items ≡ old.names.items
+    → length mid.places.items ≡ length old.places.items → Counts [] old mid → new.places ≡ mid.places → new.tally ≡ mid.tally
+    → Notes (active_of mid.names.items unit (connection_in mid place)) mid new
+    → Counts (active_of old.names.items unit (connection_in old place)) old new
+counts_active unit place old mid new names long counts places tally notes =
+    subst (λ (events : List NetworkEvent). Counts events old new) same
+    (counts_more old mid new long counts
+    (counts_places _ mid new places tally notes (are_active mid.names.items unit (connection_in mid place))))
   where
     same : active_of mid.names.items unit (connection_in mid place) ≡ active_of old.names.items unit (connection_in old place)
     same =
-        active_is mid.names.items unit (connection_in mid place) ∙ ap (active_by mid.names.items unit) (counts.numbers place)
-        ∙ ap (λ names. active_by names unit (number_of (connection_in old place))) names
+        active_is mid.names.items unit (connection_in mid place) ∙ ap (active_of_number mid.names.items unit) (counts.numbers place)
+        ∙ ap (λ names. active_of_number names unit (number_of (connection_in old place))) names
         ∙ sym (active_is old.names.items unit (connection_in old place))
 
 -- the connection in one place is closed
@@ -375,10 +352,6 @@ closed_for why (Draining since) lives = refl
 closed_for why (Shut since) lives = refl
 closed_for why (Over first) lives = absurd (false≢true (sym lives))
 
-closing_for : (why : Closing) (own : Option Connection) → is_over_of own ≡ false → reason_of (option_map (closing why) own) ≡ Some why
-closing_for why None lives = absurd (false≢true (sym lives))
-closing_for why (Some own) lives = closed_for why own.course lives
-
 closing_number : (why : Closing) (own : Option Connection) → number_of (option_map (closing why) own) ≡ number_of own
 closing_number why None = refl
 closing_number why (Some own) = refl
@@ -394,17 +367,18 @@ pub counts_one : (why : Closing) (place : ℕ) (old new : Node) → connection_i
     → (is_over_at old place ≡ false → (other : Closing) → closings_of new.tally other ≡ closed_once_more why other (closings_of old.tally other))
     → (is_over_at old place ≡ true → new.news ≡ old.news)
     → (is_over_at old place ≡ false → (number : ℕ) × (number_of (connection_in old place) ≡ Some number) × Notes (Gone number why ∷ []) old new)
-    → new.tally.connections ≡ old.tally.connections → Counts old new
+    → new.tally.connections ≡ old.tally.connections → Counts [] old new
 counts_one why place old new here others stays counts silent reports connections = elim (cases_Bool (is_over_at old place)) [
-  | inl over ↦ counts_same old new (λ other. ap (λ (t : Tally). closings_of t other) (stays over)) connections
+  | inl over ↦ counts_same [] old new (λ other. ap (λ (t : Tally). closings_of t other) (stays over)) connections
       (courses_at place old new (ap progress_of here ∙ closing_stays why (connection_in old place) over) others)
-      (news_same old new (silent over)) (λ number reason. same_silent (Gone number reason) old new (silent over))
+      (notes_none old new (silent over)) tt
   | inr lives ↦ record {
-    each = λ other.
-        counts lives other
-        ∙ ap (λ (is : Bool). counted_if is (closings_of old.tally other)) (sym (is_closed other lives))
-        ∙ sym (below_one (length old.places.items) place (closings_of old.tally other) (closes_for other old new) (within lives)
-        (λ away apart. not_closed other old new away (ap course_of (others away apart))));
+    events = Gone (reports lives).0 why ∷ [];
+    news = let report = reports lives in report.2;
+    once =
+        subst (λ (l : List NetworkEvent). IsPermutation l (Gone (reports lives).0 why ∷ [])) (sym (gone lives))
+        (IsPermutation-refl (Gone (reports lives).0 why ∷ []));
+    each = λ other. counts lives other;
     stay = λ other over. ap course_of (others other (λ is. false≢true (sym lives ∙ ap (is_over_at old) (sym is) ∙ over)));
     connections = connections;
     numbers = λ other. elim (cases_Bool (nat_eq other place)) [
@@ -412,35 +386,17 @@ counts_one why place old new here others stays counts silent reports connections
           (ap number_of here ∙ closing_number why (connection_in old place))
       | inr apart ↦ ap number_of (others other (eqb-false other place apart))
     ];
-    news = let report = reports lives in report.2.grows;
-    reported = λ other event so. elim (cases_Bool (nat_eq other place)) [
-      | inl at ↦ reports_noted event (Gone (reports lives).0 why ∷ []) old new (reports lives).2
-          (subst (λ (events : List NetworkEvent). Contains events event)
-          (sym so ∙ ap (gone_at old new) (eqb-true other place at) ∙ gone lives) (Contains-push [] event))
-      | inr apart ↦
-          let is = gone_over _ _ event so in
-          absurd (false≢true (sym is.0 ∙ sym (ap is_over_of (others other (eqb-false other place apart))) ∙ is.1))
-    ];
-    only = λ number reason among.
-        let report = reports lives in (
-          place,
-          gone lives ∙ ap (λ (event : NetworkEvent). event ∷ [])
-              (one_of (Gone number reason) (Gone report.0 why)
-              (among_some (Gone number reason) report.2.grows.more (Gone report.0 why ∷ []) report.2.some among)),
-        );
   }
 ]
   where
-    gone : (lives : is_over_at old place ≡ false) → gone_at old new place ≡ Gone (reports lives).0 why ∷ []
-    gone lives = (λ i. gone_if (lives i) (here i)) ∙ gone_is why (connection_in old place) (reports lives).0 lives (reports lives).1
-
     within : is_over_at old place ≡ false → place < length old.places.items
     within lives = elim (cases_lt place (length old.places.items)) [
       | inl below ↦ below
       | inr above ↦ absurd (false≢true (sym lives ∙ ap is_over_of (get_or_past old.places.items place None (omega (arith, above)))))
     ]
 
-    is_closed : (other : Closing) → is_over_at old place ≡ false → closes_for other old new place ≡ is_reason other (Some why)
-    is_closed other lives =
-        (λ i. not (lives i) && is_reason other (reason_of (here i)))
-        ∙ ap (is_reason other) (closing_for why (connection_in old place) lives)
+    gone : (lives : is_over_at old place ≡ false) → gone_below (length old.places.items) old new ≡ Gone (reports lives).0 why ∷ []
+    gone lives =
+        one_each (gone_at old new) place 0 (length old.places.items) (omega arith) (let below = within lives in omega (arith, below))
+        (λ other apart. gone_none (is_over_at old other) (connection_in new other) (ap is_over_of (others other apart)))
+        ∙ (λ i. gone_if (lives i) (here i)) ∙ gone_is why (connection_in old place) (reports lives).0 lives (reports lives).1

@@ -1,8 +1,10 @@
--- How the connections that a call closes are counted and reported.
-use Rattle.std.specs.Prelude.{◌≡◌, ℕ, zero, suc, ◌==◌, ◌≤◌, Bool, true, false, not, ◌&&◌, if◌then◌else◌, List, [], ◌∷◌, ◌++◌, ◌⊎◌, Option, Some, None, length, slice_get}
-use Rattle.std.specs.List.{Contains, flat_map, range_with_len}
+-- How the connections that a call closes are counted, and how these and those that become active are reported.
+use Rattle.std.specs.Prelude.{◌≡◌, ℕ, ◌≤◌, Bool, true, false, List, [], ◌∷◌, ◌++◌, ◌⊎◌, Option, Some, None, length, slice_get}
+use Rattle.std.specs.List.{flat_map, range_with_len}
+use Rattle.std.specs.List.Sorted.{IsPermutation}
 use Rattle.std.specs.VecDeque.{deque_capacity}
-use Rattle.fp_adaptor.specs.Counted.{one_more}
+use Rattle.fp_network.specs.declared.arrival.Arrival.{Arrival}
+use Rattle.fp_network.specs.declared.arrival.Arrival.TheVariants as arrivals
 use Rattle.fp_network.specs.declared.connection.Connection.{Connection}
 use Rattle.fp_network.specs.declared.course.Course.{Course}
 use Rattle.fp_network.specs.declared.event.Closing.{Closing}
@@ -12,7 +14,7 @@ use Rattle.fp_network.specs.declared.event.NetworkEvent.TheVariants.{Active, Gon
 use Rattle.fp_network.specs.declared.node.Node.{Node}
 use Rattle.fp_network.specs.Course.{closing_of}
 use Rattle.fp_network.specs.Node.{connection_in, is_over_at}
-use Rattle.fp_network.specs.Tally.{closings_of, place_of}
+use Rattle.fp_network.specs.Tally.{closed_once_more, closings_of}
 
 -- how far the connection in a place is from its end, if there is one
 abbrev pub course_of : Option Connection → Option Course
@@ -22,29 +24,12 @@ course_of (Some own) = Some own.course
 abbrev pub course_at : Node → ℕ → Option Course
 course_at node place = course_of (connection_in node place)
 
--- why a connection is to be closed, if there is one and it is
-abbrev pub reason_of : Option Connection → Option Closing
-reason_of None = None
-reason_of (Some own) = closing_of own.course
-
--- it is this reason
-abbrev pub is_reason : Closing → Option Closing → Bool
-is_reason why None = false
-is_reason why (Some other) = place_of why == place_of other
-
--- a call closes the connection in a place for this reason: it wasn't to be closed before
-abbrev pub closes_for : Closing → Node → Node → ℕ → Bool
-closes_for why old new place =
-    not (is_over_at old place) && is_reason why (reason_of (connection_in new place))
-
--- a number once one more is counted, if it is so
-abbrev pub counted_if : Bool → ℕ → ℕ
-counted_if is count = if is then one_more count else count
-
--- a number once one more is counted for each of the places below this one that are such
-abbrev pub counted_below : ℕ → (ℕ → Bool) → ℕ → ℕ
-counted_below zero are count = count
-counted_below (suc place) are count = counted_if (are place) (counted_below place are count)
+-- the number for a reason once each closing among these events is counted
+abbrev pub counted_for : Closing → List NetworkEvent → ℕ → ℕ
+counted_for why [] count = count
+counted_for why (Gone number other ∷ events) count =
+    counted_for why events (closed_once_more other why count)
+counted_for why (event ∷ events) count = counted_for why events count
 
 -- The events that weren't returned are still the next ones, and others may follow them. The room never shrinks.
 pub record NewsGrow (old new : Node) : Type 0 where
@@ -55,10 +40,6 @@ pub record NewsGrow (old new : Node) : Type 0 where
 -- The events fill the room that there was before a call. One more takes memory, and is missing if that runs out.
 abbrev pub FillsRoom : Node → Node → Type 0
 FillsRoom old new = deque_capacity old.news ≤ length new.news.items
-
--- this event is one of these, unless it is missing since the room is full
-abbrev pub Reports : NetworkEvent → List NetworkEvent → Node → Node → Type 0
-Reports event more old new = Contains more event ⊎ FillsRoom old new
 
 -- these are some of the events, in their order
 abbrev pub AreSome : List NetworkEvent → List NetworkEvent → Type 0
@@ -104,13 +85,19 @@ abbrev pub active_of : List (List ℕ) → ℕ → Option Connection → List Ne
 active_of names unit None = []
 active_of names unit (Some own) = active_for own.number (slice_get names unit)
 
--- The connection in a place is reported as active for a unit, if both are there. Events only follow those that weren't
--- returned.
-pub record ReportsActive (unit place : ℕ) (old new : Node) : Type 0 where
-  pub news : NewsGrow old new
-  pub reported :
-      (event : NetworkEvent) → Contains (active_of old.names.items unit (connection_in old place)) event
-      → Reports event news.more old new
+-- the event of a connection that becomes active by a message, if it does
+abbrev pub active_by : Arrival → List (List ℕ) → Option Connection → List NetworkEvent
+active_by (arrivals.Active unit) names own = active_of names unit own
+active_by arrivals.Nothing names own = []
+active_by arrivals.Skipped names own = []
+active_by arrivals.UnitData names own = []
+active_by (arrivals.Close why) names own = []
+
+-- each of these events reports a connection as active
+abbrev pub AreActive : List NetworkEvent → Type 0
+AreActive [] = Unit {0}
+AreActive (Active number unit ∷ events) = AreActive events
+AreActive (event ∷ events) = ⊥
 
 -- a connection of this number got no place, so that it is over at once
 abbrev pub gone_unless : ℕ → Option ℕ → List NetworkEvent
@@ -122,21 +109,19 @@ abbrev pub number_of : Option Connection → Option ℕ
 number_of None = None
 number_of (Some own) = Some own.number
 
--- Each connection that a call closes is counted once, for its reason, and reported with its number and that reason; no
--- other one is. One that was to be closed before still is, for the same reason. None comes, and each keeps its number.
--- Events only follow those that weren't returned.
-pub record Counts (old new : Node) : Type 0 where
+-- The events of a call, in some order: one for each connection that it closes, with the number and the reason, and the
+-- given ones of connections that become active. Each closing is counted for its reason. A connection that was to be
+-- closed before still is, for the same reason. No connection comes, and each keeps its number.
+pub record Counts (active : List NetworkEvent) (old new : Node) : Type 0 where
+  pub events : List NetworkEvent
+  pub news : Notes events old new
+  pub once : IsPermutation (active ++ gone_below (length old.places.items) old new) events
   pub each :
-      (why : Closing)
-      → closings_of new.tally why
-      ≡ counted_below (length old.places.items) (closes_for why old new) (closings_of old.tally why)
+      (why : Closing) → closings_of new.tally why ≡ counted_for why events (closings_of old.tally why)
   pub stay : (place : ℕ) → is_over_at old place ≡ true → course_at new place ≡ course_at old place
   pub connections : new.tally.connections ≡ old.tally.connections
   pub numbers : (place : ℕ) → number_of (connection_in new place) ≡ number_of (connection_in old place)
-  pub news : NewsGrow old new
-  pub reported :
-      (place : ℕ) (event : NetworkEvent) → gone_at old new place ≡ event ∷ []
-      → Reports event news.more old new
-  pub only :
-      (number : ℕ) (why : Closing) → Contains news.more (Gone number why)
-      → (place : ℕ) × (gone_at old new place ≡ Gone number why ∷ [])
+
+-- a call that takes messages also has events of connections that become active; `Steps` says which
+abbrev pub CountsActive : Node → Node → Type 0
+CountsActive old new = (active : List NetworkEvent) × AreActive active × Counts active old new

@@ -17,7 +17,7 @@ use Rattle.fp_network.specs.declared.connection.Connection.{Connection}
 use Rattle.fp_network.specs.declared.event.Closing.TheVariants.{Replaced, TooLong}
 use Rattle.fp_network.specs.declared.node.Node.{Node}
 use Rattle.fp_network.specs.Changes.{sending}
-use Rattle.fp_network.specs.Counting.{ReportsActive}
+use Rattle.fp_network.specs.Counting.{Counts, active_by}
 use Rattle.fp_network.specs.Course.{closing_of}
 use Rattle.fp_network.specs.Endings.{ClosesOnly}
 use Rattle.fp_network.specs.Node.{Keeps, LeavesLink, LeavesOthers, connection_in, ended_at, ended_unless, for_link, frames_for, is_over_at}
@@ -29,6 +29,7 @@ pub record OnlyAt (place : ℕ) (old new : Node) : Type 0 where
   pub link : LeavesLink old new
   pub adaptor : new.adaptor ≡ old.adaptor
   pub tally : new.tally ≡ old.tally
+  pub news : new.news ≡ old.news
 
 -- no message is skipped
 abbrev pub SkipsNone : Node → Node → Type 0
@@ -74,7 +75,7 @@ ComesTo setting history place octets Skipped old new more =
 ComesTo setting history place octets (Active unit) old new more =
     (earlier : Option ℕ) × (came : List Event) × Comes setting history place unit earlier came
     × (more ≡ ended_at old earlier ++ came) × (for_link new ≡ for_link old)
-    × ClosesOnly Replaced earlier old new × SkipsNone old new × ReportsActive unit place old new
+    × ClosesOnly Replaced earlier old new × SkipsNone old new
 ComesTo setting history place octets UnitData old new more =
     (outcome : Outcome) × Receives setting history place octets outcome more
     × (for_link new ≡ for_link old ++ frames_for outcome)
@@ -90,7 +91,8 @@ Results place octets arrival old new =
     → (more : List Event) × ComesTo setting history place octets arrival old new more
     × Led new.adaptor setting (more ++ history)
 
--- A message of the connection in a place: first the connection changes by it, and then this comes of it.
+-- A message of the connection in a place: first the connection changes by it, and then this comes of it. Each connection
+-- that the message closes has an event, and so has its own connection if it becomes active.
 pub record Steps (setting : Setting) (history : List Event) (place : ℕ) (message : IpaMessage)
     (old new : Node) : Type 0 where
   pub between : Node
@@ -101,6 +103,7 @@ pub record Steps (setting : Setting) (history : List Event) (place : ℕ) (messa
   pub only : OnlyAt place old between
   pub more : List Event
   pub comes_to : ComesTo setting history place message.octets arrival between new more
+  pub counts : Counts (active_by arrival between.names.items (connection_in between place)) between new
   pub keeps : Keeps old new
   pub led : Led new.adaptor setting (more ++ history)
 
@@ -111,7 +114,8 @@ EndsAt place old new more =
     × OnlyAt place old new)
     ⊎ (FaultIn (connection_in old place) faults.TooLong
     × (more ≡ ended_unless (is_over_at old place) place)
-    × LeavesLink old new × ClosesOnly TooLong (Some place) old new × SkipsNone old new)
+    × LeavesLink old new × ClosesOnly TooLong (Some place) old new × SkipsNone old new
+    × Counts [] old new)
 
 -- the next message, or the end
 abbrev pub NextOrEnd : ℕ → Node → Node → Option IpaMessage → Type 0

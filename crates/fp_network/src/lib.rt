@@ -80,10 +80,10 @@
 //!   [`Node::written_to_link`]).
 //! * After each call that gives no fault the adaptor is led by the events before the call, and then
 //!   by the call's own (`Led`).
-//! * Each connection that a call closes is counted once, for its reason, and reported. The events
-//!   that weren't returned are still the next ones, and others only follow them. One is missing
-//!   only if the room that there was before the call is full after it ([`Node::EVENTS`],
-//!   `specs/Counting.antt`).
+//! * Each connection that a call closes is counted once, for its reason, and reported once. One that
+//!   a message makes active is reported once. The events that weren't returned are still the next
+//!   ones, and those of the call follow them. An event is missing only if the room that there was
+//!   before the call is full after it ([`Node::EVENTS`], `specs/Counting.antt`).
 //!
 //! No contract speaks of the sockets. The case `node` of `tools/attacks` shows how they are used,
 //! and `tools/sccp` does so against a transfer point.

@@ -135,7 +135,7 @@ impl Node {
         ensures others { LeavesOthers place self.old self.new }
         ensures ended { EndsClosed self.old self.new }
         ensures link { LeavesLink self.old self.new }
-        ensures counted { Counts self.old self.new }
+        ensures counted { Counts [] self.old self.new }
         ensures reported { Notes (gone_at self.old self.new place) self.old self.new }
         ensures skipped { SkipsNone self.old self.new }
     {
@@ -150,7 +150,7 @@ impl Node {
         ensures each { ChangesEach (ticking at) self.old self.new }
         ensures ended { EndsClosed self.old self.new }
         ensures link { LeavesLink self.old self.new }
-        ensures counted { Counts self.old self.new }
+        ensures counted { Counts [] self.old self.new }
         ensures reported { ReportsEach self.old self.new }
         ensures skipped { SkipsNone self.old self.new }
         ensures tied { KeepsTied self.old self.new }
@@ -211,7 +211,7 @@ impl Node {
         ensures others { LeavesOthers place self.old self.new }
         ensures ended { EndsClosed self.old self.new }
         ensures link { LeavesLink self.old self.new }
-        ensures counted { Counts self.old self.new }
+        ensures counted { Counts [] self.old self.new }
         ensures skipped { SkipsNone self.old self.new }
         ensures reported { is_read_out_of at found_no_more (connection_in self.old place) ≡ true
             → (number : ℕ) × (number_of (connection_in self.old place) ≡ Some number)
@@ -257,7 +257,7 @@ impl Node {
         ensures each { ChangesEach (closing LinkDown) self.old self.new }
         ensures ended { EndsClosed self.old self.new }
         ensures link { LeavesLink self.old self.new }
-        ensures counted { Counts self.old self.new }
+        ensures counted { Counts [] self.old self.new }
         ensures reported { ReportsEach self.old self.new }
         ensures skipped { SkipsNone self.old self.new }
         ensures tied { KeepsTied self.old self.new }

@@ -1,6 +1,6 @@
 //! Octets of the link, and the messages in them.
 
-ghost use Rattle.std.specs.Prelude.{◌≡◌, ℕ, List, ◌++◌, None, Some, ◌<◌, ◌≤◌, IfErr, IfOk, OnOk, length};
+ghost use Rattle.std.specs.Prelude.{◌≡◌, ℕ, List, [], ◌++◌, None, Some, ◌<◌, ◌≤◌, IfErr, IfOk, OnOk, length};
 ghost use Rattle.std.specs.Option.{option_map};
 ghost use Rattle.fp_adaptor.specs.declared.setting.Setting.{Setting};
 ghost use Rattle.fp_adaptor.specs.Adaptor.{Led, most_data};
@@ -66,7 +66,7 @@ impl Node {
             → refusal_of (connection_in self.new place) ≡ None }
         ensures rest { WaitsOn self.old self.new }
         ensures link { LeavesLink self.old self.new }
-        ensures counted { Counts self.old self.new }
+        ensures counted { Counts [] self.old self.new }
         ensures skipped { SkipsNone self.old self.new }
     {
         for _unit in 0..self.names.len() {
@@ -93,7 +93,7 @@ impl Node {
             → refusal_of (connection_in self.new place) ≡ None }
         ensures rest { WaitsOn self.old self.new }
         ensures link { LeavesLink self.old self.new }
-        ensures counted { Counts self.old self.new }
+        ensures counted { Counts [] self.old self.new }
         ensures skipped { SkipsNone self.old self.new }
     {
         if frame.octets().len() > MOST_DATA {
@@ -109,7 +109,7 @@ impl Node {
             → Forwards setting history frame.now self.old self.new) }
         ensures rest { OnOk result (WaitsOn self.old self.new) }
         ensures link { LeavesLink self.old self.new }
-        ensures counted { OnOk result (Counts self.old self.new) }
+        ensures counted { OnOk result (Counts [] self.old self.new) }
         ensures skipped { SkipsNone self.old self.new }
     {
         self.make_way_for(frame);
@@ -156,7 +156,7 @@ impl Node {
         ensures names { self.new.names.items ≡ self.old.names.items }
         ensures draining { self.new.is_draining ≡ self.old.is_draining }
         ensures count { length self.new.places.items ≡ length self.old.places.items }
-        ensures counted { OnOk result (Counts self.old self.new) }
+        ensures counted { OnOk result (Counts [] self.old self.new) }
         ensures skipped { SkipsNone self.old self.new }
         ensures tied { OnOk result (KeepsTied self.old self.new) }
     {

@@ -1,6 +1,6 @@
 //! Octets of connections, and the messages in them.
 
-ghost use Rattle.std.specs.Prelude.{◌≡◌, List, ◌++◌, None, Some, ◌<◌, IfErr, IfOk, OnErr, OnOk, option_map};
+ghost use Rattle.std.specs.Prelude.{◌≡◌, List, [], ◌++◌, None, Some, ◌<◌, IfErr, IfOk, OnErr, OnOk, option_map};
 ghost use Rattle.fp_adaptor.specs.declared.adaptor.Outcome.{Outcome};
 ghost use Rattle.fp_adaptor.specs.declared.setting.Setting.{Setting};
 ghost use Rattle.fp_adaptor.specs.Adaptor.{Led, Receives};
@@ -9,7 +9,7 @@ ghost use Rattle.fp_frames.specs.Frame.{framed};
 ghost use Rattle.fp_network.specs.Frames.{frames_of, framed_if};
 ghost use Rattle.fp_network.specs.Endings.{Activates, KeepsTied};
 ghost use Rattle.fp_network.specs.Changes.{IsLonger};
-ghost use Rattle.fp_network.specs.Counting.{Counts, Notes, ReportsActive, active_of};
+ghost use Rattle.fp_network.specs.Counting.{Counts, CountsActive, Notes, active_by, active_of};
 ghost use Rattle.fp_network.specs.Receiving.{FaultIn, Hearing, NextIn, NextOrEnd, Results, SkipsNone, Steps, answering, feeding, reader_of};
 ghost use Rattle.fp_network.specs.Stepping.{ArrivesIn};
 ghost use Rattle.fp_network.specs.Node.{Grows, Keeps, LeavesLink, LeavesOthers, WaitsOn, connection_in, for_link, frames_for, waiting_at};
@@ -80,7 +80,7 @@ impl Node {
         ensures reads { reader_of (connection_in self.new place)
             ≡ reader_of (connection_in self.old place) }
         ensures link { LeavesLink self.old self.new }
-        ensures counted { Counts self.old self.new }
+        ensures counted { Counts [] self.old self.new }
     {
         let Some(earlier) = self.adaptor.came(place, unit) else {
             return;
@@ -99,8 +99,8 @@ impl Node {
         ensures reads { reader_of (connection_in self.new place)
             ≡ reader_of (connection_in self.old place) }
         ensures link { LeavesLink self.old self.new }
-        ensures counted { Counts self.old self.new }
-        ensures active { ReportsActive unit place self.old self.new }
+        ensures counted { Counts (active_of self.old.names.items unit
+            (connection_in self.old place)) self.old self.new }
     {
         self.replace(place, unit);
         self.note_active(place, unit);
@@ -121,7 +121,7 @@ impl Node {
         ensures grows { OnOk result (Grows (for_link self.old) (for_link self.new)) }
         ensures rest { OnOk result (WaitsOn self.old self.new) }
         ensures keeps { Keeps self.old self.new }
-        ensures counted { OnOk result (Counts self.old self.new) }
+        ensures counted { OnOk result (Counts [] self.old self.new) }
     {
         match self.adaptor.received(place, octets)? {
             Outcome::HandedOn(frames) => push_frames(&mut self.to_link, &frames),
@@ -159,7 +159,7 @@ impl Node {
         ensures next { IfOk result (NextOrEnd place self.old self.new) }
         ensures rest { WaitsOn self.old self.new }
         ensures link { LeavesLink self.old self.new }
-        ensures counted { OnOk result (Counts self.old self.new) }
+        ensures counted { OnOk result (Counts [] self.old self.new) }
     {
         match self.next_message(place) {
             Ok(message) => Ok(message),
@@ -205,7 +205,8 @@ impl Node {
         ensures grows { OnOk result (Grows (for_link self.old) (for_link self.new)) }
         ensures rest { OnOk result (WaitsOn self.old self.new) }
         ensures keeps { Keeps self.old self.new }
-        ensures counted { OnOk result (Counts self.old self.new) }
+        ensures counted { OnOk result (Counts (active_by arrival self.old.names.items
+            (connection_in self.old place)) self.old self.new) }
     {
         match arrival {
             Arrival::Nothing => Ok(()),
@@ -235,7 +236,7 @@ impl Node {
         ensures grows { OnOk result (Grows (for_link self.old) (for_link self.new)) }
         ensures rest { OnOk result (WaitsOn self.old self.new) }
         ensures keeps { Keeps self.old self.new }
-        ensures counted { OnOk result (Counts self.old self.new) }
+        ensures counted { OnOk result (CountsActive self.old self.new) }
     {
         let arrival = self.step(place, message)?;
         self.arrive(place, arrival, message.octets.as_slice())?;
@@ -270,7 +271,7 @@ impl Node {
         ensures grows { OnOk result (Grows (for_link self.old) (for_link self.new)) }
         ensures rest { OnOk result (WaitsOn self.old self.new) }
         ensures keeps { Keeps self.old self.new }
-        ensures counted { OnOk result (Counts self.old self.new) }
+        ensures counted { OnOk result (CountsActive self.old self.new) }
         ensures tied { OnOk result (KeepsTied self.old self.new) }
     {
         self.feed(place, octets)?;

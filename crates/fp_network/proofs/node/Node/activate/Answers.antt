@@ -1,10 +1,10 @@
 use Rattle.std.proofs.Common.{◌++◌, sym, subst}
 use Rattle.fp_adaptor.specs.declared.adaptor.Adaptor.{Adaptor}
 use Rattle.fp_adaptor.specs.Adaptor.{Led}
-use Rattle.fp_network.specs.Node.{connection_in, ended_at}
+use Rattle.fp_network.specs.Node.{ended_at}
 use Rattle.fp_network.proofs.Ending.{closes_as}
 use Rattle.fp_network.proofs.Waits.{stays_more, waits_same}
-use Rattle.fp_network.proofs.Tallied.{active_then, counts_more, counts_active}
+use Rattle.fp_network.proofs.Tallied.{counts_active}
 use Rattle.fp_network.proofs.node.Node.activate.Goals as goal
 
 pub returns-clause-came : goal.returns-clause-came
@@ -27,12 +27,7 @@ returns-clause-reads c = rw c.note_active.ensures.places c.replace.ensures.reads
 
 pub returns-clause-counted : goal.returns-clause-counted
 returns-clause-counted c =
+    let replace = c.replace.ensures in
     let note = c.note_active.ensures in
-    counts_more c.args.self.now c.replace.new.self c.note_active.new.self c.replace.ensures.link.count c.replace.ensures.counted
-    (counts_active c.replace.new.self.names.items c.args.unit (connection_in c.replace.new.self c.args.place) c.replace.new.self
-    c.note_active.new.self note.places note.tally note.news)
-
-pub returns-clause-active : goal.returns-clause-active
-returns-clause-active c =
-    active_then c.args.unit c.args.place c.args.self.now c.replace.new.self c.note_active.new.self c.replace.ensures.link.names
-    c.replace.ensures.counted c.note_active.ensures.news
+    counts_active c.args.unit c.args.place c.args.self.now c.replace.new.self c.note_active.new.self replace.link.names replace.link.count
+    replace.counted note.places note.tally note.news

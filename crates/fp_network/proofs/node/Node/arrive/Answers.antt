@@ -1,7 +1,6 @@
 use Rattle.std.proofs.Common.{[], ap, refl, sym, subst}
 use Rattle.std.proofs.lemmas.Result.{on_ok_weaker}
 use Rattle.fp_network.specs.declared.arrival.Arrival.{Arrival}
-use Rattle.fp_network.specs.declared.event.NetworkEvent.TheVariants.{Gone}
 use Rattle.fp_network.specs.declared.tally.Tally.{Tally}
 use Rattle.fp_network.specs.Node.{ended_unless, is_over_at}
 use Rattle.fp_network.specs.Receiving.{Results}
@@ -9,7 +8,7 @@ use Rattle.fp_network.specs.Tally.{closings_of}
 use Rattle.fp_network.proofs.Growing.{grows_none}
 use Rattle.fp_network.proofs.Hearing.{closed_event, reads_closed, results_active}
 use Rattle.fp_network.proofs.Waits.{stays_same, waits_closed}
-use Rattle.fp_network.proofs.News.{news_same, same_silent}
+use Rattle.fp_network.proofs.News.{notes_none}
 use Rattle.fp_network.proofs.Tallied.{counts_none, counts_one, counts_same}
 use Rattle.fp_network.proofs.node.Node.arrive.Goals as goal
 
@@ -47,7 +46,7 @@ pub returns-in-Active-clause-comes_to : goal.returns-in-Active-clause-comes_to
 returns-in-Active-clause-comes_to c =
     subst (λ (arrival : Arrival). Results c.args.place c.args.octets.now arrival c.args.self.now c.activate.new.self) (sym c.in-Active.is)
     (results_active c.in-Active.unit c.args.place c.args.octets.now c.args.self.now c.activate.new.self c.activate.ensures.link.for_link
-    c.activate.ensures.skipped c.activate.ensures.came c.activate.ensures.active)
+    c.activate.ensures.skipped c.activate.ensures.came)
 
 pub returns-in-UnitData-clause-comes_to : goal.returns-in-UnitData-clause-comes_to
 returns-in-UnitData-clause-comes_to c =
@@ -73,15 +72,21 @@ returns-in-Close-clause-reads c =
     reads_closed _ c.args.place c.args.place c.args.self.now c.close.new.self c.close.ensures.here c.close.ensures.others
 
 pub returns-in-Nothing-clause-counted : goal.returns-in-Nothing-clause-counted
-returns-in-Nothing-clause-counted c = counts_none _ _ refl refl refl
+returns-in-Nothing-clause-counted c = rw c.in-Nothing.is (counts_none _ _ refl refl refl)
 
 pub returns-in-Skipped-clause-counted : goal.returns-in-Skipped-clause-counted
-returns-in-Skipped-clause-counted c = counts_same _ _ (λ why. ap (λ (t : Tally). closings_of t why) c.skip.ensures)
-    (ap (λ (t : Tally). t.connections) c.skip.ensures) (λ place. refl) (news_same _ _ refl)
-    (λ number why. same_silent (Gone number why) _ _ refl)
+returns-in-Skipped-clause-counted c =
+    rw c.in-Skipped.is (counts_same [] _ _ (λ why. ap (λ (t : Tally). closings_of t why) c.skip.ensures)
+    (ap (λ (t : Tally). t.connections) c.skip.ensures) (λ place. refl) (notes_none _ _ refl) tt)
+
+pub returns-in-Active-clause-counted : goal.returns-in-Active-clause-counted
+returns-in-Active-clause-counted c = rw c.in-Active.is c.activate.ensures.counted
+
+pub returns-in-UnitData-clause-counted : goal.returns-in-UnitData-clause-counted
+returns-in-UnitData-clause-counted c = rw c.in-UnitData.is c.unit_data.ensures.counted
 
 pub returns-in-Close-clause-counted : goal.returns-in-Close-clause-counted
 returns-in-Close-clause-counted c =
     let close = c.close.ensures in
-    counts_one _ c.args.place c.args.self.now c.close.new.self close.here close.others close.uncounted close.counted close.silent
-    close.reported close.connections
+    rw c.in-Close.is (counts_one _ c.args.place c.args.self.now c.close.new.self close.here close.others close.uncounted close.counted close.silent
+    close.reported close.connections)

@@ -1,3 +1,4 @@
+use Rattle.std.proofs.Common.{[]}
 use Rattle.fp_network.specs.declared.event.Closing.TheVariants.{LinkDown}
 use Rattle.fp_network.specs.Changes.{closing}
 use Rattle.fp_network.specs.Counting.{Counts}
@@ -14,7 +15,7 @@ invariant-loop-place l = record {
   so : Changing (closing LinkDown) l.place l.fn.self l.self;
   ended : EndsClosed l.fn.self l.self;
   link : LeavesLink l.fn.self l.self;
-  counted : Counts l.fn.self l.self;
+  counted : Counts [] l.fn.self l.self;
   reported : Reported l.place l.fn.self l.self;
   skipped : SkipsNone l.fn.self l.self;
 }

@@ -6,7 +6,7 @@ use Rattle.fp_adaptor.specs.History.{said}
 use Rattle.fp_network.specs.Node.{connection_in}
 use Rattle.fp_network.proofs.Tied.{tied_closes}
 use Rattle.fp_network.proofs.Waits.{sending_adds, stays_more, waits_change}
-use Rattle.fp_network.proofs.Tallied.{counts_at, counts_more, courses_sent, progress_of}
+use Rattle.fp_network.proofs.Tallied.{counts_at, counts_more, counts_none, courses_sent, progress_of}
 use Rattle.fp_network.proofs.node.Node.forward.Goals as goal
 
 pub returns-in_ok-send-in-By-clause-forwards : goal.returns-in_ok-send-in-By-clause-forwards
@@ -101,26 +101,10 @@ returns-in_ok-send-in-By-clause-counted c =
 
 pub returns-in-NoConnection-clause-counted : goal.returns-in-NoConnection-clause-counted
 returns-in-NoConnection-clause-counted c =
-    let way = c.make_way_for.ensures.counted in
-    record {
-      each = way.each;
-      stay = way.stay;
-      connections = way.connections;
-      numbers = way.numbers;
-      news = record { more = way.news.more; grow = way.news.grow; room = way.news.room };
-      reported = way.reported;
-      only = way.only;
-    }
+    counts_more c.args.self.now c.make_way_for.new.self _ c.make_way_for.ensures.link.count c.make_way_for.ensures.counted
+    (counts_none c.make_way_for.new.self _ refl refl refl)
 
 pub returns-in-TooLong-clause-counted : goal.returns-in-TooLong-clause-counted
 returns-in-TooLong-clause-counted c =
-    let way = c.make_way_for.ensures.counted in
-    record {
-      each = way.each;
-      stay = way.stay;
-      connections = way.connections;
-      numbers = way.numbers;
-      news = record { more = way.news.more; grow = way.news.grow; room = way.news.room };
-      reported = way.reported;
-      only = way.only;
-    }
+    counts_more c.args.self.now c.make_way_for.new.self _ c.make_way_for.ensures.link.count c.make_way_for.ensures.counted
+    (counts_none c.make_way_for.new.self _ refl refl refl)

@@ -1,4 +1,4 @@
-use Rattle.std.proofs.Common.{◌≡◌, ℕ, ◌<◌, List, None}
+use Rattle.std.proofs.Common.{◌≡◌, ℕ, ◌<◌, List, [], None}
 use Rattle.fp_adaptor.specs.declared.setting.Setting.{Setting}
 use Rattle.fp_adaptor.specs.Adaptor.{Led}
 use Rattle.fp_adaptor.specs.Connections.{connection_at}
@@ -17,7 +17,7 @@ invariant-loop-unit l = record {
   refused : ClosesRefused l.fn.self l.self;
   rest : WaitsOn l.fn.self l.self;
   link : LeavesLink l.fn.self l.self;
-  counted : Counts l.fn.self l.self;
+  counted : Counts [] l.fn.self l.self;
   skipped : SkipsNone l.fn.self l.self;
   none :
       (setting : Setting) (history : List Event) → Led l.fn.self.adaptor setting history → IsTied l.fn.self history

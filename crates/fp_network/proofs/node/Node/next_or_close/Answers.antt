@@ -29,25 +29,7 @@ pub returns-in-Ok-clause-next : goal.returns-in-Ok-clause-next
 returns-in-Ok-clause-next c =
     let next = c.next_message.ensures in
     next_or_end c.args.place c.args.self.now c.next_message.new.self c.in-Ok.message c.in-Ok.ensures.next
-    (record { others = next.others; link = next.link; adaptor = next.adaptor; tally = next.tally })
-
-pub returns-in-Err-TooLong-clause-next : goal.returns-in-Err-TooLong-clause-next
-returns-in-Err-TooLong-clause-next c setting history led =
-    let next = c.next_message.ensures in
-    let kept = c.in-Err-TooLong.ensures.kept in
-    let close = c.close.ensures in (
-      ended_unless (is_over_at c.args.self.now c.args.place) c.args.place,
-      inr (
-        (rw c.in-Err-TooLong.field-0-is at c.in-Err-TooLong.ensures.fault),
-        refl,
-        leaves_more _ _ _ next.link close.link,
-        (close.here ∙ ap (option_map (closing TooLong)) kept, λ other apart. close.others other apart ∙ next.others other apart),
-        close.skipped ∙ ap (λ (t : Tally). t.skipped) next.tally,
-      ),
-      subst (λ (over : Bool). Led c.close.new.self.adaptor setting (ended_unless over c.args.place ++ history)) (ap is_over_of kept)
-          (closed_event c.args.place c.next_message.new.self c.close.new.self setting history close.stays close.ended
-          (same_led _ _ setting history next.adaptor led)),
-    )
+    (record { others = next.others; link = next.link; adaptor = next.adaptor; tally = next.tally; news = next.news })
 
 pub returns-in-Ok-clause-counted : goal.returns-in-Ok-clause-counted
 returns-in-Ok-clause-counted c =
@@ -62,3 +44,22 @@ returns-in-Err-TooLong-clause-counted c =
     (counts_at c.args.place c.args.self.now c.next_message.new.self (ap progress_of c.in-Err-TooLong.ensures.kept) next.others next.tally next.news)
     (counts_one TooLong c.args.place c.next_message.new.self c.close.new.self close.here close.others close.uncounted close.counted close.silent
     close.reported close.connections)
+
+pub returns-in-Err-TooLong-clause-next : goal.returns-in-Err-TooLong-clause-next
+returns-in-Err-TooLong-clause-next c setting history led =
+    let next = c.next_message.ensures in
+    let kept = c.in-Err-TooLong.ensures.kept in
+    let close = c.close.ensures in (
+      ended_unless (is_over_at c.args.self.now c.args.place) c.args.place,
+      inr (
+        (rw c.in-Err-TooLong.field-0-is at c.in-Err-TooLong.ensures.fault),
+        refl,
+        leaves_more _ _ _ next.link close.link,
+        (close.here ∙ ap (option_map (closing TooLong)) kept, λ other apart. close.others other apart ∙ next.others other apart),
+        close.skipped ∙ ap (λ (t : Tally). t.skipped) next.tally,
+        returns-in-Err-TooLong-clause-counted c,
+      ),
+      subst (λ (over : Bool). Led c.close.new.self.adaptor setting (ended_unless over c.args.place ++ history)) (ap is_over_of kept)
+          (closed_event c.args.place c.next_message.new.self c.close.new.self setting history close.stays close.ended
+          (same_led _ _ setting history next.adaptor led)),
+    )

@@ -4,7 +4,7 @@ use Rattle.fp_network.proofs.Growing.{grows_more, grows_none}
 use Rattle.fp_network.proofs.Hearing.{HearingOn, heard_all, heard_more, hears_each, same_led}
 use Rattle.fp_network.proofs.Leaves.{keeps_left, keeps_more}
 use Rattle.fp_network.proofs.Waits.{stays_more, waits_same_at}
-use Rattle.fp_network.proofs.Tallied.{counts_at, counts_more, courses_fed, progress_of}
+use Rattle.fp_network.proofs.Tallied.{counts_at, counts_on, courses_fed, progress_of}
 use Rattle.fp_network.proofs.Keeping.{keeps_hearing}
 use Rattle.fp_network.proofs.node.Node.received.Goals as goal
 
@@ -15,7 +15,7 @@ loop-message-init c =
       so = λ setting history led. record {
         fed = c.feed.new.self;
         is_fed = feed.fed;
-        only = record { others = feed.others; link = feed.link; adaptor = feed.adaptor; tally = feed.tally };
+        only = record { others = feed.others; link = feed.link; adaptor = feed.adaptor; tally = feed.tally; news = feed.news };
         messages = [];
         later = history;
         led = same_led _ _ setting history feed.adaptor led;
@@ -24,7 +24,11 @@ loop-message-init c =
       grows = rw feed.link.for_link (grows_none _);
       rest = waits_same_at c.args.place c.args.self.now c.feed.new.self feed.here feed.others;
       keeps = keeps_left c.args.self.now c.feed.new.self feed.link;
-      counted = counts_at c.args.place c.args.self.now c.feed.new.self (ap progress_of feed.fed ∙ courses_fed _ _) feed.others feed.tally feed.news;
+      counted = (
+        [],
+        tt,
+        counts_at c.args.place c.args.self.now c.feed.new.self (ap progress_of feed.fed ∙ courses_fed _ _) feed.others feed.tally feed.news,
+      );
     }
 
 -- a message is dropped in two ways
@@ -42,9 +46,9 @@ loop-message-preserved c =
       rest = stays_more _ _ _ inv.rest (stays_more _ _ _ next.rest take.rest);
       keeps = keeps_more c.args.self.now c.loop-message.self c.take.new.self inv.keeps
           (keeps_more c.loop-message.self c.next_or_close.new.self c.take.new.self (keeps_left _ _ next.link) c.take.ensures.keeps);
-      counted = counts_more c.args.self.now c.loop-message.self c.take.new.self inv.keeps.count inv.counted
-          (counts_more c.loop-message.self c.next_or_close.new.self c.take.new.self next.link.count c.in_ok-message.ensures.counted
-          take.counted);
+      counted = counts_on c.args.self.now c.loop-message.self c.take.new.self inv.keeps.count inv.counted
+          (counts_on c.loop-message.self c.next_or_close.new.self c.take.new.self next.link.count
+          ([], tt, c.in_ok-message.ensures.counted) take.counted);
     }
 
 pub loop-message-preserved-in_ok-take : goal.loop-message-preserved-in_ok-take
@@ -61,9 +65,9 @@ loop-message-preserved-in_ok-take c =
       rest = stays_more _ _ _ inv.rest (stays_more _ _ _ next.rest take.rest);
       keeps = keeps_more c.args.self.now c.loop-message.self c.take.new.self inv.keeps
           (keeps_more c.loop-message.self c.next_or_close.new.self c.take.new.self (keeps_left _ _ next.link) c.take.ensures.keeps);
-      counted = counts_more c.args.self.now c.loop-message.self c.take.new.self inv.keeps.count inv.counted
-          (counts_more c.loop-message.self c.next_or_close.new.self c.take.new.self next.link.count c.in_ok-message.ensures.counted
-          take.counted);
+      counted = counts_on c.args.self.now c.loop-message.self c.take.new.self inv.keeps.count inv.counted
+          (counts_on c.loop-message.self c.next_or_close.new.self c.take.new.self next.link.count
+          ([], tt, c.in_ok-message.ensures.counted) take.counted);
     }
 
 hears_on : (c : goal.In_default) → HearingOn c.args.place c.args.octets.now c.args.self.now c.next_or_close.new.self
@@ -96,7 +100,8 @@ returns-in_default-clause-keeps c =
 pub returns-in_default-clause-counted : goal.returns-in_default-clause-counted
 returns-in_default-clause-counted c =
     let inv = c.loop-message.invariant in
-    counts_more c.args.self.now c.loop-message.self c.next_or_close.new.self inv.keeps.count inv.counted c.in_ok-message.ensures.counted
+    counts_on c.args.self.now c.loop-message.self c.next_or_close.new.self inv.keeps.count inv.counted
+    ([], tt, c.in_ok-message.ensures.counted)
 
 pub returns-in_default-clause-tied : goal.returns-in_default-clause-tied
 returns-in_default-clause-tied c =

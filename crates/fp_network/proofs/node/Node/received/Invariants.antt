@@ -2,7 +2,7 @@ use Rattle.std.proofs.Common.{List, length}
 use Rattle.fp_adaptor.specs.declared.setting.Setting.{Setting}
 use Rattle.fp_adaptor.specs.Adaptor.{Led}
 use Rattle.fp_adaptor.specs.History.{Event}
-use Rattle.fp_network.specs.Counting.{Counts}
+use Rattle.fp_network.specs.Counting.{CountsActive}
 use Rattle.fp_network.specs.Node.{Grows, Keeps, WaitsOn, connection_in}
 use Rattle.fp_network.specs.Receiving.{reader_of}
 use Rattle.fp_network.proofs.Hearing.{Heard}
@@ -16,7 +16,7 @@ invariant-loop-message l = record {
   grows : Grows l.fn.self.to_link l.self.to_link;
   rest : WaitsOn l.fn.self l.self;
   keeps : Keeps l.fn.self l.self;
-  counted : Counts l.fn.self l.self;
+  counted : CountsActive l.fn.self l.self;
 }
 
 abbrev pub decreases-loop-message : goal.decreases-loop-message
