@@ -13,7 +13,7 @@
 pub mod messages;
 mod second_first;
 
-pub use second_first::{EACH_ONCE, MOST_WAITS, SecondFirst};
+pub use second_first::{EACH_ONCE, SecondFirst};
 
 #[cfg(test)]
 mod relays;

@@ -1,7 +1,7 @@
 //! The records and the messages of the tests of a hub.
 //!
-//! Messages have names, which scripts use ([`named`]). Octets are written in hexadecimal digits, two for each. All messages
-//! arrive at the same moment, [`NOON`].
+//! Messages have names, which scripts use ([`named`]). Octets are written in hexadecimal digits, two for each. All
+//! messages arrive at the same moment, [`NOON`].
 
 use bytes::Bytes;
 use fp_book::Posted;
@@ -31,7 +31,7 @@ const EMPTY_BEGIN: &str = "620648040000002C";
 const UNIDIRECTIONAL: &str = "6100";
 
 /// A Continue to a dialogue that doesn't exist.
-pub const STRANGE: &str = "650C48040000002A490400000009";
+pub(crate) const STRANGE: &str = "650C48040000002A490400000009";
 
 /// A Continue with one Reject to the first dialogue of link 0, which has nothing to do for it.
 const REJECT: &str = "651648040000002C4904000000016C08A406020101830100";
@@ -40,7 +40,7 @@ const REJECT: &str = "651648040000002C4904000000016C08A406020101830100";
 const BAD_END: &str = "6400";
 
 /// The number of InitialDP in the message `calls`, each of which is answered.
-pub const CALLS_COUNT: usize = 16;
+pub(crate) const CALLS_COUNT: usize = 16;
 
 /// A Begin for this number of InitialDP, which follow it.
 const CALLS: &str = "6282025A48040000002A6C820250";
@@ -89,16 +89,16 @@ fn octets_of(name: &str) -> Option<&'static str> {
     None
 }
 
-/// The frame of the message of this name: `empty`, `unidirectional`, `strange`, `reject`, `bad-end`, `end-2` to `end-5`,
-/// `calls` or `rejects`. Other names are the hexadecimal digits of an identifier, from which [`begin`] makes a frame.
-/// `None`: the name isn't a number, or out of memory.
+/// The frame of the message of this name: `empty`, `unidirectional`, `strange`, `reject`, `bad-end`, `end-2` to
+/// `end-5`, `calls` or `rejects`. Other names are the hexadecimal digits of an identifier, from which [`begin`] makes a
+/// frame. `None`: the name isn't a number, or out of memory.
 pub fn named(alloc: Global, name: &str) -> Option<Frame> {
     if let Some(octets) = octets_of(name) {
         return frame_of(alloc, octets);
     }
     match name {
-        "calls" => calls(alloc),
-        "rejects" => sixteen(alloc, REJECTS, ONE_REJECT),
+        "calls" => long_begin(alloc),
+        "rejects" => with_components(alloc, REJECTS, ONE_REJECT),
         digits => begin(alloc, u32::from_str_radix(digits, 16).ok()?),
     }
 }
@@ -136,8 +136,9 @@ pub fn post_frame<R: Wait, A: Ledger, B: Ledger, C: Ledger>(
     Some(hub.post(rt, alloc, seat, came))
 }
 
-/// The frame of the octets of these digits. `None`: the digits aren't octets, these aren't 1 to 4,096, or out of memory.
-pub fn frame_of(alloc: Global, text: &str) -> Option<Frame> {
+/// The frame of the octets of these digits. `None`: the digits aren't octets, these aren't 1 to 4,096, or out of
+/// memory.
+pub(crate) fn frame_of(alloc: Global, text: &str) -> Option<Frame> {
     let octets = hex::decode(alloc, text).ok()?;
     Frame::new(Bytes::copy_from_slice(alloc, octets.as_slice()).ok()?)
 }
@@ -151,17 +152,18 @@ pub fn begin(alloc: Global, identifier: u32) -> Option<Frame> {
     frame_of(alloc, text.ok()?.as_str())
 }
 
-/// The frame of these digits, and sixteen times others after them. If memory runs out, octets are missing at its end.
-fn sixteen(alloc: Global, front: &str, each: &str) -> Option<Frame> {
+/// The frame of these digits, and sixteen times the digits of a component after them. If memory runs out, octets are
+/// missing at its end.
+fn with_components(alloc: Global, front: &str, component: &str) -> Option<Frame> {
     let mut text = String::new(alloc);
     let _ = text.push_str(front);
     for _ in 0..CALLS_COUNT {
-        let _ = text.push_str(each);
+        let _ = text.push_str(component);
     }
     frame_of(alloc, text.as_str())
 }
 
 /// The frame of a Begin with [`CALLS_COUNT`] InitialDP, from the identifier 2A. `None`: out of memory.
-pub fn calls(alloc: Global) -> Option<Frame> {
-    sixteen(alloc, CALLS, CALL)
+pub(crate) fn long_begin(alloc: Global) -> Option<Frame> {
+    with_components(alloc, CALLS, CALL)
 }

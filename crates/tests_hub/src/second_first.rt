@@ -7,7 +7,7 @@ use std::thread;
 use std::time::Duration;
 
 /// How many milliseconds a test waits for something, or how often it looks for it, once a millisecond.
-pub const MOST_WAITS: u32 = 10_000;
+pub(crate) const MOST_WAITS: u32 = 10_000;
 
 /// The count of a gate ([`SecondFirst::seen`]) that the turn of its first dialogue and the turn of its second one have
 /// passed once each, and no other turn has.
@@ -44,13 +44,13 @@ impl<'a, R: Clock> SecondFirst<'a, R> {
         }
     }
 
-    /// How often each turn has passed: in the last four bits the first one of the first dialogue, in the four above them
-    /// the first one of the second dialogue; above these eight bits all other turns, also of another link.
+    /// How often each turn has passed: in the last four bits the first one of the first dialogue, in the four above
+    /// them the first one of the second dialogue; above these eight bits all other turns, also of another link.
     pub fn seen(&self) -> u64 {
         self.seen.load(Ordering::SeqCst)
     }
 
-    /// Whether the held turn went on without the mark, after [`MOST_WAITS`] milliseconds.
+    /// Whether the held turn went on without the mark, after ten seconds.
     pub fn is_late(&self) -> bool {
         self.is_late.load(Ordering::SeqCst)
     }

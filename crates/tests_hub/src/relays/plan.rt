@@ -1,6 +1,6 @@
 //! The messages of a link, and the values that its threads share beside the hub.
 
-use crate::messages::{CALLS_COUNT, begin, calls};
+use crate::messages::{CALLS_COUNT, begin, long_begin};
 use fp_frames::Frame;
 use fp_records::Table;
 use std::alloc::Global;
@@ -63,7 +63,7 @@ impl Plan {
     /// The frame of a message. `None`: out of memory.
     pub(super) fn frame(&self, alloc: Global, number: u32) -> Option<Frame> {
         if self.is_long {
-            calls(alloc)
+            long_begin(alloc)
         } else {
             begin(alloc, self.identifier(number))
         }

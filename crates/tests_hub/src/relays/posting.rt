@@ -1,8 +1,8 @@
 //! The thread that posts the messages of a plan.
 
 use super::plan::{Load, Marks};
-use crate::MOST_WAITS;
 use crate::messages::{STRANGE, add_frame, frame_of, post_frame};
+use crate::second_first::MOST_WAITS;
 use fp_book::Posted;
 use fp_entry::Prepared;
 use fp_hub::{Gate, Hub, Seat};
@@ -92,8 +92,8 @@ fn post_one<R: Wait + Clock, A: Ledger, B: Ledger, C: Ledger>(
     }
 }
 
-/// Posts a message to a dialogue that doesn't exist, once all answers were sent: its Abort would be sent before one that
-/// waits. `false`: no Abort of the provider answers it.
+/// Posts a message to a dialogue that doesn't exist, once all answers were sent: its Abort would be sent before one
+/// that waits. `false`: no Abort of the provider answers it.
 fn post_stranger<R: Wait + Clock, A: Ledger, B: Ledger, C: Ledger>(
     rt: &R,
     hub: &Hub<A, B, C>,

@@ -1,7 +1,7 @@
 //! Threads that send the parcels of a hub, and keep their octets.
 
 use super::plan::Marks;
-use crate::MOST_WAITS;
+use crate::second_first::MOST_WAITS;
 use fp_book::{Parcel, Picked};
 use fp_hub::{Hub, Seat};
 use std::alloc::Global;
