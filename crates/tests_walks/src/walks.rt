@@ -20,8 +20,8 @@
 //! | `foreign` | turns and parcels of another hub: `foreign-turns`, `mix`, `foreign-parcels`, `foreign-in-hold` |
 //! | `caller` | several calls that are the same: `posts`, `offers`, `adds`, `sends`, `serve-all` and others |
 //!
-//! Some calls have several steps (`caller`), which the modules list, too; a script doesn't call a step. Calls that take
-//! a turn and give it back, as `turn`, `put-back`, `give-closed` and those `in-share`, need that no turn is at hand.
+//! Some calls have several steps (`caller`), which the modules list, too; a script doesn't call a step. Calls with a
+//! step `take`, `take-first` or `take-one` answer `turns at hand` if there are some, and take none.
 
 ghost use Rattle.fp_hub.specs.Shares.{AreBlanks};
 

@@ -25,6 +25,8 @@ front => four
 turn 1 => silent
 front => none
 share 2 32 => two three silent enough
+turn 1 => turns at hand
+give-in-share => turns at hand
 share 2 32 => two three silent enough
 serve
 share 1 2 => two one queued enough
@@ -45,6 +47,7 @@ in-hold => sent
 in-hold => sent nothing
 share 1 0 => none none silent enough
 share 1 32 => none none silent nothing
+give-in-share => nothing
 add unidirectional
 add strange
 add unidirectional

@@ -4,7 +4,7 @@
 //! |---|---|
 //! | `share WORKERS MOST` | the turns at hand are given back, and at most MOST are taken as one of WORKERS workers: |
 //! | | how many were, how many are still ready, whether a frame was queued, and why no more were taken |
-//! | `give-in-share` | one turn is taken, served and given in such holds: `given` |
+//! | `give-in-share` | one turn is taken, served and given in such holds: `given`; or why none was taken |
 //! | `give-closed-in-share MESSAGE` | one turn is taken, a message closes its dialogue, and the turn is served and |
 //! | | given: `given`, if no frame was queued |
 //! | `put-back-closed-in-share MESSAGE` | the same, and the turn is put back: `back` |
@@ -12,7 +12,7 @@
 //! | `serve-in-place MOST` | at most MOST turns are served in their places: how many are still ready, whether a |
 //! | | frame was queued, and why no more were served |
 //! | `serve-one-in-place` | one turn is served in its place: `served` |
-//! | step `take-one` | nothing: one turn is taken in a hold |
+//! | step `take-one` | nothing: one turn is taken in a hold, and is at hand then, alone; or why none is |
 //! | step `take-share` | nothing: the turns at hand are given back, and others taken; or why there is none |
 //! | step `return` | nothing: the turns at hand are given back |
 //! | step `silent` | nothing: the same, if no frame was queued, and else `queued` |
@@ -60,6 +60,7 @@ pub(super) fn share_step<R: Wait + Clock, A: Ledger, B: Ledger, C: Ledger>(
     rest: &str,
 ) -> &'static str {
     let most = match name {
+        "take-one" if !held.work.is_empty() => return "turns at hand",
         "take-one" => 1,
         "take-share" => MOST_TURNS,
         "silent" | "return" => 0,
@@ -72,7 +73,7 @@ pub(super) fn share_step<R: Wait + Clock, A: Ledger, B: Ledger, C: Ledger>(
 /// The word of a step that gives back turns and takes others in a hold, after which these are at hand or none is.
 fn hold_word(name: &str, worked: Worked, is_none: bool) -> &'static str {
     match name {
-        "take-share" if is_none => stop_word(worked.stopped, "enough"),
+        "take-one" | "take-share" if is_none => stop_word(worked.stopped, "enough"),
         "silent" => choose(worked.is_queued, "queued", ""),
         _ => "",
     }

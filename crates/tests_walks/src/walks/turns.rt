@@ -9,8 +9,9 @@
 //! | `put-back-closed MESSAGE` | the same, and the turn is put back |
 //! | `serve` | nothing: the turns at hand are served |
 //! | `worker` | nothing: a worker serves whose hub is closed when the first turn passes its gate |
-//! | step `take PLACE` | nothing: the next turn, which has this place, is at hand then; or why it isn't |
-//! | steps `take-first`, `take-any` | the same with place 0, or with any place |
+//! | step `take PLACE` | nothing: the next turn, which has this place, is at hand then, alone; or why it isn't |
+//! | step `take-first` | the same with place 0 |
+//! | step `take-any` | nothing: the next turn is at hand then, after those that are; or why there is none |
 //! | step `give` | the first turn at hand is given if it was served, and else put back, as by `turn` and `put-back` |
 //! | step `give-one` | nothing: the same |
 
@@ -44,9 +45,9 @@ pub(super) fn turn_step<R: Wait + Clock, A: Ledger, B: Ledger, C: Ledger>(
     match name {
         "take" => {
             let place = rest.parse().unwrap_or(NONE);
-            taken_word(hub.take(rt), place, &mut held.work)
+            take_only(rt, hub, place, &mut held.work)
         }
-        "take-first" => taken_word(hub.take(rt), 0, &mut held.work),
+        "take-first" => take_only(rt, hub, 0, &mut held.work),
         "take-any" => taken_word(hub.take(rt), ANY, &mut held.work),
         "serve" => {
             serve_each(held.alloc, &mut held.work);
@@ -58,6 +59,20 @@ pub(super) fn turn_step<R: Wait + Clock, A: Ledger, B: Ledger, C: Ledger>(
             ""
         }
         _ => share_step(rt, hub, seat, held, name, rest),
+    }
+}
+
+/// Takes the next turn and puts it into a list, if that is empty. Nothing, if the turn has this place, or why not.
+fn take_only<R: Wait, A: Ledger, B: Ledger, C: Ledger>(
+    rt: &R,
+    hub: &Hub<A, B, C>,
+    place: u64,
+    work: &mut VecDeque<Work>,
+) -> &'static str {
+    if work.is_empty() {
+        taken_word(hub.take(rt), place, work)
+    } else {
+        "turns at hand"
     }
 }
 
