@@ -36,7 +36,7 @@ fn want_ending(outcome: &Outcome, ending: Ending) -> Result<(), Fail> {
         None
     };
     if outcome.fault != fault || fault.is_none() && outcome.replayed != outcome.told {
-        return Err(Fail::new(told));
+        return Err(outcome.failure(outcome.replayed.as_slice()));
     }
     Ok(())
 }

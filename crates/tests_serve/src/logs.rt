@@ -29,7 +29,7 @@ fn a_log_that_hangs_holds_nobody_up(rt: HostRuntime) -> Result<(), Fail> {
     let events = str::from_utf8(outcome.errors.as_slice())?;
     assert!(rt;
         outcome.log.is_empty() && events.contains("lines are lost\n"),
-        "lost lines"
+        "a log, or no lost lines in {events}"
     );
     Ok(())
 }
@@ -54,8 +54,9 @@ fn want_gap(alloc: Global, outcome: &Outcome, trouble: Trouble) -> Result<(), Fa
         "link 0 accepted 3 served 6 sent 3\nlink 1 accepted 3 served 6 sent 3\n",
     )?;
     let (gap, lost) = gap_in(str::from_utf8(outcome.log.as_slice())?)?;
-    if outcome.replay_fault != Some(ReplayFault::Gap(gap)) {
-        return Err(Fail::new("another replay"));
+    let end = outcome.replay_fault;
+    if end != Some(ReplayFault::Gap(gap)) {
+        return Err(Fail::new(format_args!("a gap in line {gap}, the replay ended by {end:?}")));
     }
     let events = str::from_utf8(outcome.errors.as_slice())?;
     trouble.want_events(alloc, events, lost)

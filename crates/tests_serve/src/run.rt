@@ -77,10 +77,17 @@ pub(crate) struct Outcome {
 }
 
 impl Outcome {
+    /// A failure with this text, after the faults of the run and of its replay.
+    pub(crate) fn failure(&self, text: &[u8]) -> Fail {
+        let (fault, replay_fault) = (self.fault, self.replay_fault);
+        let text = str::from_utf8(text).unwrap_or("no text");
+        Fail::new(format_args!("run {fault:?}, replay {replay_fault:?}, {text}"))
+    }
+
     /// Fails unless the run ended with this fault, or with none, and reported this of its links.
     pub(crate) fn want_told(&self, fault: Option<ServeFault>, wanted: &str) -> Result<(), Fail> {
         if self.fault != fault || self.told.as_slice() != wanted.as_bytes() {
-            return Err(Fail::new(str::from_utf8(self.told.as_slice())?));
+            return Err(self.failure(self.told.as_slice()));
         }
         Ok(())
     }
@@ -90,7 +97,7 @@ impl Outcome {
     pub(crate) fn want(&self, wanted: &str) -> Result<(), Fail> {
         self.want_told(None, wanted)?;
         if self.replayed.as_slice() != wanted.as_bytes() {
-            return Err(Fail::new(str::from_utf8(self.replayed.as_slice())?));
+            return Err(self.failure(self.replayed.as_slice()));
         }
         Ok(())
     }
@@ -161,6 +168,17 @@ where
     }
 }
 
+/// How often the end of the events is awaited, each time for a second at most.
+const MOST_FINISHES: u32 = 60;
+
+/// Ends the events of a run, and waits until all are written.
+fn finish<R: Wait + Clock>(rt: &R, events: &Events) {
+    for _ in 0..MOST_FINISHES {
+        // It returns at once if they are.
+        events.finish(rt);
+    }
+}
+
 /// Runs links, whose turns pass this gate, beside their clients. Fails if these see anything else than has to come.
 pub(crate) fn run<R, G>(rt: &R, alloc: Global, gate: &G, plan: Plan<'_>) -> Result<Outcome, Fail>
 where
@@ -179,7 +197,7 @@ where
         || serve(rt, alloc, gate, plan.settings, &streams, &events, listener),
         || plan.act.play(rt, alloc, &streams),
     );
-    events.finish(rt);
+    finish(rt, &events);
     let log = streams.end(rt, alloc).ok_or("out of memory")?;
     let played = played.ok_or("no answer, or another one")?;
     let seconds_after = played.end.elapsed(rt)?.as_secs();
