@@ -91,6 +91,7 @@ fn close(places: &mut [Node<'_>], place: usize, used: usize, tag: Tag)
 
 /// Reads the element at the front, nested at most `depth` deep, into the places after the used ones, and gives the
 /// octets after it.
+#[inline(always)]
 #[cycle(nodes)]
 pub(crate) fn node_at<'a>(
     octets: &'a [u8],

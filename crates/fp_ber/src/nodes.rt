@@ -34,6 +34,7 @@ fn nodes_in<'a>(octets: &'a [u8], places: &mut [Node<'a>]) -> Result<usize, Node
 ///
 /// Octets that spell no element in range are refused by their first fault. [`NodesFault::Full`]: there are fewer places
 /// than nodes. With a place for each two octets you never get it.
+#[inline(always)]
 pub fn read_nodes<'a>(octets: &'a [u8], places: &mut [Node<'a>]) -> Result<usize, NodesFault>
     ensures places { IfOk result (λ used. (0 < used) × (used ≤ length places.new)) }
 

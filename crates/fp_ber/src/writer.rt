@@ -47,6 +47,7 @@ const MOST: usize = 0xFFFF_FFFF;
 /// Makes the room larger, so that this many octets fit before the position `start`. Gives the new position of the
 /// octets that began there; they are unchanged. `Err`: there would be more than 2^32 - 1 octets, or memory ran out, and
 /// nothing has changed.
+#[inline(never)]
 fn grow(room: &mut Vec<u8>, start: usize, count: usize) -> Result<usize, AllocError>
     requires start { start ≤ vec_len room.old }
     requires fits { vec_len room.old < 2 ^ 32 }
@@ -66,6 +67,7 @@ fn grow(room: &mut Vec<u8>, start: usize, count: usize) -> Result<usize, AllocEr
 }
 
 /// Makes room for this many octets before the position `start`, as [`grow`] does, if there isn't enough.
+#[inline(always)]
 fn make_room(room: &mut Vec<u8>, start: usize, count: usize) -> Result<usize, AllocError>
     requires start { start ≤ vec_len room.old }
     requires fits { vec_len room.old < 2 ^ 32 }
@@ -97,6 +99,7 @@ impl Writer {
     }
 
     /// Puts octets before the others. More than 2^32 - 1 in all count as out of memory.
+    #[inline(always)]
     pub fn put(&mut self, octets: &[u8]) -> Result<(), AllocError>
         ensures ok { OnOk result (self.new ≡ octets.now ++ self.old) }
         ensures err { OnErr result (self.new ≡ self.old) }
@@ -108,6 +111,7 @@ impl Writer {
     }
 
     /// Puts a tag and a length before the others.
+    #[inline(always)]
     fn put_header(&mut self, tag: Tag, length: usize) -> Result<(), AllocError>
         requires tag { IsTagNumber tag.class tag.number }
         requires length { length < 2 ^ 32 }
@@ -137,6 +141,7 @@ impl Writer {
 
     /// Puts the canonical spelling of a primitive element before the octets. The tag number must be in range. More than
     /// 2^32 - 1 octets in all count as out of memory.
+    #[inline(always)]
     #[tactic(auto, using(crate::specs::Putting::end_of_end))]
     pub fn put_primitive(
         &mut self,
@@ -166,6 +171,7 @@ impl Writer {
 
     /// Puts a tag and a length before the spellings of elements, which makes them a constructed element. The tag number
     /// must be in range. The last `behind` octets lie after this element; all octets before them must be the spellings.
+    #[inline(always)]
     pub fn put_constructed(
         &mut self,
         class: Class,

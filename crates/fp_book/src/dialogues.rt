@@ -29,6 +29,7 @@ pub(crate) struct Left {
 
 impl Left {
     /// The summary of this dialogue.
+    #[inline(always)]
     fn of(row: &Row) -> Left
         ensures { result ≡ left_as row.now }
     {
@@ -87,6 +88,7 @@ fn has_become_ready(row: &Row, was_ready: bool) -> bool
 }
 
 /// Removes a dialogue unless it is still held. Takes no memory.
+#[inline(always)]
 fn keep(rows: &mut Rows, local: u32, is_held: bool)
     ensures { rows.new ≡ (if is_held then rows.old else remove rows.old local) }
 {
@@ -179,6 +181,7 @@ pub(crate) fn put_back(rows: &mut Rows, turn: Turn) -> Result<Left, Turn>
 
 /// Counts one more frame of a dialogue as sent; one of its kept frames must not be sent yet. Returns whether the
 /// dialogue is still held, and removes it if it isn't. Takes no memory.
+#[inline(always)]
 pub(crate) fn sent(rows: &mut Rows, local: u32) -> bool
     requires { is_unsent (get rows.old local) ≡ true }
     ensures { SendsAt rows.old local result rows.new }

@@ -164,6 +164,7 @@ impl Outbox {
 
     /// Hands out the next parcel of this link, 0 to 7: the oldest Abort of the provider, or, if none waits, the oldest
     /// frame. While a parcel is out there is no other. Takes no memory.
+    #[inline(always)]
     pub fn pick(&mut self, link: u8) -> Picked
         ensures { Picks link self.old result self.new }
     {
@@ -180,6 +181,7 @@ impl Outbox {
     /// Takes back the parcel of this link that is out: nothing is being sent from now on, and the waiting frames stay.
     /// A foreign parcel is returned, and nothing changes: it is of another link, or its content isn't the one that is
     /// being sent. Takes no memory.
+    #[inline(always)]
     pub fn take_back(&mut self, link: u8, parcel: Parcel) -> Result<(), Parcel>
         ensures ok { IfOk result (λ _. self.new ≡ with_nothing_out self.old) }
         ensures err { IfErr result (λ back. (back ≡ parcel) × (self.new ≡ self.old)) }

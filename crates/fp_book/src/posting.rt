@@ -149,6 +149,7 @@ impl Book {
     }
 
     /// The verdict on a message: the first matching rule of receipt applies.
+    #[inline(always)]
     pub(crate) fn verdict(&self, came: &Prepared) -> Verdict
         ensures value { result ≡ verdict self.now came.now }
         ensures sound { Sound self.now }
@@ -282,6 +283,7 @@ impl Book {
     }
 
     /// Executes the verdict on a message.
+    #[inline(always)]
     pub(crate) fn receive(&mut self, alloc: Global, found: Verdict, came: Prepared) -> Receipt
         requires { found ≡ verdict self.old came }
         ensures { IsReceipt self.old came result self.new }

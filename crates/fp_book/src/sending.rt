@@ -54,6 +54,7 @@ impl Sending {
     }
 
     /// Starts sending this content. Takes no memory.
+    #[inline(always)]
     pub(crate) fn start(&mut self, content: &Content)
         ensures { self.new ≡ Some content.now }
     {
@@ -119,6 +120,7 @@ impl Sending {
     }
 
     /// Whether this very content is being sent: the same Abort, or the same frame of the same dialogue.
+    #[inline(always)]
     pub(crate) fn is(&self, content: &Content) -> bool
         ensures { IsTrue result ↔ (self.now ≡ Some content.now) }
     {

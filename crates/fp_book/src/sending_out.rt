@@ -30,6 +30,7 @@ fn close_all(rows: &mut Rows, deadlines: &mut Deadlines, outbox: &Outbox)
 impl Book {
     /// Hands out the next parcel: the oldest Abort of the provider, or, if none waits, the oldest frame of a dialogue.
     /// `Busy`: a parcel is out already. `Nothing`: no frame waits. In these cases nothing changes. Takes no memory.
+    #[inline(always)]
     pub fn pick(&mut self) -> Picked
         ensures hands { Hands self.old result self.new }
         ensures sound { Sound self.new }
@@ -46,6 +47,7 @@ impl Book {
     /// Takes back the parcel that was sent: a frame counts as one more that its dialogue sent, an Abort of the provider
     /// isn't counted. A foreign parcel, of another link or not the one that is out, is returned, and nothing changes.
     /// Takes no memory.
+    #[inline(always)]
     pub fn sent(&mut self, parcel: Parcel) -> Result<(), Parcel>
         ensures ok { OnOk result (Sends self.old parcel.content self.new) }
         ensures err { IfErr result (λ back. (back ≡ parcel) × (self.new ≡ self.old)) }

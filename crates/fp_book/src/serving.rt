@@ -29,6 +29,7 @@ pub(crate) fn end_serial_unless_held(ids: &mut LocalIds, local: u32, is_held: bo
 }
 
 /// Sets the deadline of a dialogue, or clears it. Takes no memory.
+#[inline(always)]
 pub(crate) fn set_deadline(deadlines: &mut Deadlines, local: u32, deadline: Option<u64>)
     requires { HasRoom deadlines.old local }
     ensures { deadlines.new ≡ with_deadline deadlines.old local deadline }

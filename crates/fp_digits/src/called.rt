@@ -14,6 +14,7 @@ use crate::{CalledOctets, NatureOfAddress, NoNumber, Number};
 /// national number 80012.
 ///
 /// The second octet (internal network number indicator and numbering plan) isn't checked. The error is [`NoNumber`].
+#[inline(always)]
 pub fn read_called(octets: &[u8]) -> Result<Number, NoNumber>
     ensures { result_ok result ≡ number_of octets.now }
 {

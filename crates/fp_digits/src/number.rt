@@ -27,6 +27,7 @@ pub struct NoNumber;
 const MOST_OCTETS: usize = 18;
 
 /// The number in a called or a calling party number; only the second octet differs between the two.
+#[inline(always)]
 #[tactic(auto, unfolding(crate::specs::Number::number_of))]
 pub(crate) fn read(octets: &[u8]) -> Result<Number, NoNumber>
     ensures { result_ok result ≡ number_of octets.now }
@@ -56,6 +57,7 @@ fn nature_in(octet: u8) -> NatureOfAddress
 }
 
 /// The digits of these octets, two in each.
+#[inline(always)]
 fn digits_in(octets: &[u8]) -> Digits
     requires { length octets.now ≤ 16 }
     ensures digits { result ≡ flat_map halves octets.now }

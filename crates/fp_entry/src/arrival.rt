@@ -25,6 +25,7 @@ pub struct Arrival {
 impl Arrival {
     /// The arrival of this frame at this moment, for the table with this index, with the identifiers in its octets.
     /// Takes no memory.
+    #[inline(always)]
     pub fn new(frame: Frame, moment: Moment, table: u16) -> Arrival
         ensures arrival { IsArrival frame moment result }
         ensures table { result.table ≡ table }

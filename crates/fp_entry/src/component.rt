@@ -93,6 +93,7 @@ fn event_kind(invoke: &Invoke<'_>) -> EntryKind
 }
 
 /// The entry for an Invoke.
+#[inline(always)]
 fn invoke_kind(lookup: &mut Lookup<'_>, invoke: &Invoke<'_>) -> Result<EntryKind, AllocError>
     ensures kind { IfOk result (IsInvokeKind lookup.old invoke.now.identifier invoke.now.linked (code_of invoke.now.code)
         (tree_in invoke.now.parameter)) }
@@ -118,6 +119,7 @@ fn rejected_identifier(reject: &Reject) -> Option<i8>
 }
 
 /// The kind of entry for a component. The only error is out of memory, for one more share of a record.
+#[inline(always)]
 pub fn kind_of(lookup: &mut Lookup<'_>, component: &Component<'_>) -> Result<EntryKind, AllocError>
     ensures kind { IfOk result (IsKind lookup.old (component_of component.now)) }
     ensures same { lookup.new ≡ lookup.old }

@@ -45,6 +45,7 @@ impl Entries {
 
     /// Appends an entry. If memory runs out, the list is unchanged. Most messages bring at most two entries, so the first
     /// one gets room for one more.
+    #[inline(always)]
     pub fn push(&mut self, entry: Entry) -> Result<(), AllocError>
         ensures ok { OnOk result (self.new ≡ self.old ++ entry ∷ []) }
         ensures err { OnErr result (self.new ≡ self.old) }

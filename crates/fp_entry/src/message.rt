@@ -18,6 +18,7 @@ use fp_q773::{Abort, Begin, Component, Continue, End, Message};
 use std::alloc::{AllocError, Global};
 
 /// Appends the entries of components, up to the first faulty component.
+#[inline(always)]
 fn deliver(
     lookup: &mut Lookup<'_>,
     components: &[Component<'_>],

@@ -100,6 +100,7 @@ fn read_element(
 }
 
 /// Reads the message in the element of these nodes, and gives its entries.
+#[inline(always)]
 fn read_placed(
     alloc: Global,
     lookup: &mut Lookup<'_>,
@@ -139,6 +140,7 @@ fn read_into<'a>(
 }
 
 /// Reads a message with more than [`FEW`] nodes, and gives its entries.
+#[inline(never)]
 fn read_long(
     alloc: Global,
     lookup: &mut Lookup<'_>,

@@ -68,6 +68,7 @@ impl FrameReader {
     /// [`FrameFault::BadFrameLength`] means that the next length is 0 or above [`Frame::MOST`]; all further calls
     /// report it, too. [`FrameFault::Memory`] is only reported for a complete frame. After a fault the reader is
     /// unchanged.
+    #[inline(always)]
     pub fn next(&mut self) -> Result<Option<Frame>, FrameFault>
         ensures next { IfOk result (λ frame. HandsOut self.old self.new frame) }
         ensures fault { IfErr result (FrameFaultSays self.old) }

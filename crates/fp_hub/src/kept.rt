@@ -216,6 +216,7 @@ impl<A: Ledger, B: Ledger, C: Ledger> Kept<A, B, C> {
     }
 
     /// Hands out the next parcel, as [`Book::pick`].
+    #[inline(always)]
     pub fn pick(&mut self) -> Picked
         ensures hands { Hands self.old result self.new }
         ensures sound { Sound self.new }
@@ -224,6 +225,7 @@ impl<A: Ledger, B: Ledger, C: Ledger> Kept<A, B, C> {
     }
 
     /// Takes back the parcel that was sent, as [`Book::sent`].
+    #[inline(always)]
     pub fn sent(&mut self, seat: &mut Seat<A, B, C>, parcel: Parcel) -> Result<(), Parcel>
         ensures ok { OnOk result (Sends self.old parcel.content self.new) }
         ensures err { IfErr result (λ back. (back ≡ parcel) × (self.new ≡ self.old)) }
@@ -277,6 +279,7 @@ impl<A: Ledger, B: Ledger, C: Ledger> Kept<A, B, C> {
     }
 
     /// Hands out the next parcel, unless the link is down.
+    #[inline(always)]
     pub(crate) fn next(&mut self) -> Next
         ensures finds { Finds self.old result self.new }
         ensures sound { Sound self.new }

@@ -49,6 +49,7 @@ pub struct InitialDp {
 /// callingPartyNumber, tag 3; callingPartysCategory, tag 5, one octet; eventTypeBCSM, tag 28, one octet. Members with
 /// other context tags are skipped. Any other element is [`Mistyped`]. Octets without a number (see [`read_called`]) are
 /// no error: the number is absent. An event with a name is returned by its name.
+#[inline(always)]
 pub fn initial_dp_in(argument: &ElementRef<'_>) -> Result<InitialDp, Mistyped>
     ensures ok { IfOk result (IsInitialDp (lent_tree argument.now)) }
     ensures only { (dp : InitialDp) → IsInitialDp (lent_tree argument.now) dp → result ≡ Ok dp }
@@ -67,6 +68,7 @@ pub fn read_initial_dp(argument: &Element) -> Result<InitialDp, Mistyped>
 }
 
 /// Reads the argument of InitialDP, as [`initial_dp_in`] does.
+#[inline(always)]
 fn initial_dp_of(argument: &ElementRef<'_>) -> Result<InitialDp, Mistyped>
     ensures ok { IfOk result (IsInitialDp (lent_tree argument.now)) }
     ensures err { IfErr result (λ _. (dp : InitialDp) → IsInitialDp (lent_tree argument.now) dp → ⊥) }
@@ -106,6 +108,7 @@ fn key_in(octets: Option<&[u8]>) -> Result<Option<u32>, Mistyped>
 }
 
 /// The called party number in these octets, if there is one.
+#[inline(always)]
 fn called_in(octets: Option<&[u8]>) -> Option<Number>
     ensures { result ≡ number_in (octets_in octets.entry) }
 {
@@ -116,6 +119,7 @@ fn called_in(octets: Option<&[u8]>) -> Option<Number>
 }
 
 /// The calling party number in these octets, if there is one.
+#[inline(always)]
 fn calling_in(octets: Option<&[u8]>) -> Option<Number>
     ensures { result ≡ number_in (octets_in octets.entry) }
 {

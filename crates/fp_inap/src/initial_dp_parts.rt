@@ -50,6 +50,7 @@ fn put<'a>(parts: &mut Parts<'a>, member: ElementRef<'a>) -> Result<(), Mistyped
 }
 
 /// The members that are read. Two with one number are a fault.
+#[inline(always)]
 pub(crate) fn parts_of<'a>(members: &Elements<'a>) -> Result<Parts<'a>, Mistyped>
     ensures ok { IfOk result (AreParts (lent_trees members.now)) }
     ensures err { IfErr result (λ _. IsOneEach (lent_trees members.now) → ⊥) }

@@ -72,6 +72,7 @@ fn octet_in(number: i32) -> Option<u8>
 
 /// Writes an integer in two's complement, in as few octets as it takes. For example, 46 is `02 01
 /// 2E`.
+#[inline(always)]
 fn write_integer(number: i32, out: &mut Writer) -> Result<(), AllocError>
     ensures exact { OnOk result (out.new ≡ canon (code_tree (value.local number)) ++ out.old) }
     ensures stays { EndsWith out.new out.old }
@@ -97,6 +98,7 @@ fn write_integer(number: i32, out: &mut Writer) -> Result<(), AllocError>
 
 impl<'a> Code<'a> {
     /// Reads a code: an integer of one to four octets, or an object identifier.
+    #[inline(always)]
     pub(crate) fn read(element: &ElementRef<'a>) -> Option<Code<'a>>
         ensures some { IfSome result (λ code. IsCode (lent_tree element.now) (code_of code)) }
         ensures none { IfNone result ((code : CodeValue) → IsCode (lent_tree element.now) code → ⊥) }
@@ -114,6 +116,7 @@ impl<'a> Code<'a> {
     }
 
     /// Writes a code.
+    #[inline(always)]
     pub(crate) fn write(&self, out: &mut Writer) -> Result<(), AllocError>
         ensures exact { OnOk result (out.new ≡ canon (code_tree (code_of self.now)) ++ out.old) }
         ensures stays { EndsWith out.new out.old }
@@ -130,6 +133,7 @@ impl<'a> Code<'a> {
 
 impl<'a> Coded<'a> {
     /// Reads a code and a parameter, if there is one.
+    #[inline(always)]
     pub(crate) fn read(members: &Elements<'a>) -> Option<Coded<'a>>
         ensures some { IfSome result (λ c. IsCoded (lent_trees members.now) (code_of c.code) (tree_in c.parameter)) }
         ensures none { IfNone result ((code : CodeValue) (parameter : Option Tree)

@@ -29,6 +29,7 @@ pub fn identifier_of(element: &ElementRef<'_>) -> Option<i8>
 }
 
 /// Writes an invoke identifier. If memory runs out, the octets are unchanged.
+#[inline(always)]
 pub fn write_identifier(identifier: i8, out: &mut Writer) -> Result<(), AllocError>
     ensures exact { OnOk result (out.new ≡ canon (identifier_tree identifier) ++ out.old) }
     ensures err { OnErr result (out.new ≡ out.old) }

@@ -53,6 +53,7 @@ fn behind(octets: &[u8], tag: u8) -> Option<&[u8]>
 }
 
 /// The identifier at the front with this tag, and the octets after it.
+#[inline(always)]
 fn identifier_at(octets: &[u8], tag: u8) -> Option<Standing<'_>>
     ensures some { IfSome result (λ s. Stands tag octets.now (octets_of s.identifier) s.rest.now) }
     ensures none { IfNone result (Counts tag octets.now None) }
@@ -77,6 +78,7 @@ fn identifier_at(octets: &[u8], tag: u8) -> Option<Standing<'_>>
 }
 
 /// The identifier at the front with this tag.
+#[inline(always)]
 fn counted(octets: &[u8], tag: u8) -> Option<Tid>
     ensures { Counts tag octets.now (option_map octets_of result) }
 {
@@ -125,6 +127,7 @@ fn unknown_ids(octets: &[u8]) -> Found
 }
 
 /// The identifiers in the contents of a message of this kind.
+#[inline(always)]
 fn ids_in(kind: Kind, octets: &[u8]) -> Found
     ensures { AreIdsIn kind octets.now (option_map octets_of result.orig) (option_map octets_of result.dest) }
 {
@@ -169,6 +172,7 @@ fn contents_of(first: u8, body: &[u8]) -> Option<&[u8]>
 /// its length is definite, one to four, and all its octets are there. The first one that doesn't count ends the search.
 /// With an unknown kind and a tag of one octet, both are read if they are there. For example, `65 0C 48 04 00 00 00 07`
 /// is a Continue with the originating identifier 00 00 00 07.
+#[inline(always)]
 pub fn ids_of(octets: &[u8]) -> Ids
     ensures { AreIds octets.now result.kind (option_map octets_of result.orig) (option_map octets_of result.dest) }
 {

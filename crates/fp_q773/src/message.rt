@@ -46,6 +46,7 @@ pub enum Message<'a> {
 }
 
 /// Reads the contents of a Begin.
+#[inline(always)]
 fn begin_in<'a>(alloc: Global, members: &Elements<'a>) -> Result<Message<'a>, MessageFault>
     ensures found { IfOk result (λ message.
         IsMessage (tree.constructed classes.Application 2 (lent_trees members.now)) (message_value message)) }
@@ -96,6 +97,7 @@ fn abort_in<'a>(members: &Elements<'a>) -> Result<Message<'a>, MessageFault>
 }
 
 /// Reads the message in an element.
+#[inline(always)]
 fn read_message<'a>(alloc: Global, element: &ElementRef<'a>) -> Result<Message<'a>, MessageFault>
     ensures found { IfOk result (λ message. IsMessage (lent_tree element.now) (message_value message)) }
     ensures named { IfOk result HasNamedProblems }
@@ -124,6 +126,7 @@ fn read_message<'a>(alloc: Global, element: &ElementRef<'a>) -> Result<Message<'
 /// [`MessageFault::UnknownMessage`]: the tag isn't a message's. [`MessageFault::Badly`]: the tag is a message's, but
 /// the contents don't fit. A component with wrong contents isn't a fault of the message: it is read as a faulty
 /// component. The contents of a Unidirectional aren't read.
+#[inline(always)]
 pub fn message_in<'a>(alloc: Global, element: &ElementRef<'a>) -> Result<Message<'a>, MessageFault>
     // The element is the message that is read.
     ensures found { IfOk result (λ message. IsMessage (lent_tree element.now) (message_value message)) }

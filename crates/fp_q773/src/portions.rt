@@ -71,6 +71,7 @@ pub fn dialogue_at<'a>(members: &Elements<'a>) -> Dialogue<'a>
 }
 
 /// Reads components, in their order.
+#[inline(always)]
 fn components_in<'a>(
     alloc: Global,
     members: &Elements<'a>,
@@ -88,6 +89,7 @@ fn components_in<'a>(
 }
 
 /// Reads a component portion, if there is one.
+#[inline(always)]
 fn portion_in<'a>(alloc: Global, members: &Elements<'a>) -> Result<Vec<Component<'a>>, MessageFault>
     ensures found { IfOk result (λ v. IsPortion (lent_trees members.now) (map component_of v.items)) }
     ensures named { IfOk result (λ v. All HasNamedProblem v.items) }
@@ -112,6 +114,7 @@ fn portion_in<'a>(alloc: Global, members: &Elements<'a>) -> Result<Vec<Component
 
 impl<'a> Portions<'a> {
     /// Reads both portions.
+    #[inline(always)]
     pub fn read(alloc: Global, members: &Elements<'a>) -> Result<Portions<'a>, MessageFault>
         ensures found { IfOk result (λ p. ArePortions (lent_trees members.now) (tree_in p.dialogue)
             (map component_of p.components.items)) }

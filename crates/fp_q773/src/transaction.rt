@@ -49,6 +49,7 @@ pub fn transaction_at<'a>(members: &Elements<'a>, number: u16) -> Option<Transac
 
 /// Writes a transaction identifier with this tag number, which must be in range. If memory runs out, the octets are
 /// unchanged.
+#[inline(always)]
 pub fn write_transaction(identifier: Tid, number: u16, out: &mut Writer) -> Result<(), AllocError>
     requires { IsTagNumber classes.Application number }
     ensures exact { OnOk result (out.new ≡ canon (tree.primitive classes.Application number (octets_of identifier)) ++ out.old) }

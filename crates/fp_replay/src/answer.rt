@@ -15,6 +15,7 @@ use fp_book::{Given, Posted};
 use fp_q773::AbortCause;
 
 /// Puts the outcome of a message at the front of a part of a line.
+#[inline(always)]
 pub(crate) fn put_posted(answer: Posted, part: &mut LinePart)
     requires { HasRoom 21 part.old }
     ensures { Puts 21 (posted_text answer) part.old part.new }
@@ -67,6 +68,7 @@ pub(crate) fn posted_in(field: &[u8]) -> Option<Posted>
 }
 
 /// Puts the outcome of requests at the front of a part of a line.
+#[inline(always)]
 pub(crate) fn put_given(given: Given, part: &mut LinePart)
     requires { HasRoom 21 part.old }
     ensures { Puts 21 (given_text given) part.old part.new }

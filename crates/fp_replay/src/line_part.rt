@@ -58,6 +58,7 @@ impl LinePart {
     }
 
     /// Puts a blank and a number at the front.
+    #[inline(always)]
     pub(crate) fn put_field(&mut self, number: u64)
         requires { HasRoom 21 self.old }
         ensures { Puts 21 (32 ∷ decimal number) self.old self.new }
@@ -86,6 +87,7 @@ impl LinePart {
     }
 
     /// Adds the octets to a text.
+    #[inline(always)]
     pub(crate) fn add_to(&self, text: &mut Vec<u8>) -> Result<(), AllocError>
         ensures written { OnOk result (text.new.items ≡ text.old.items ++ self.now) }
         ensures front { OnErr result (KeepsFront text.old.items text.new.items) }

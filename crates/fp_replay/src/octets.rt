@@ -38,6 +38,7 @@ fn fill_digits(octets: &[u8], digits: &mut [u8])
 }
 
 /// Adds octets to a text.
+#[inline(always)]
 pub(crate) fn write_octets(octets: &[u8], text: &mut Vec<u8>) -> Result<(), AllocError>
     ensures written { OnOk result (text.new.items ≡ text.old.items ++ encode_upper octets.now) }
     ensures front { OnErr result (KeepsFront text.old.items text.new.items) }
@@ -50,6 +51,7 @@ pub(crate) fn write_octets(octets: &[u8], text: &mut Vec<u8>) -> Result<(), Allo
 }
 
 /// Puts a local transaction identifier at the front of a part of a line.
+#[inline(always)]
 pub(crate) fn put_identifier(local: u32, part: &mut LinePart)
     requires { HasRoom 8 part.old }
     ensures { Puts 8 (identifier_text local) part.old part.new }

@@ -11,6 +11,7 @@ use crate::number::long_number_in;
 use fp_book::LoggedStep;
 
 /// Puts the letter and the field of a parcel at the front of a part of a line.
+#[inline(always)]
 pub(crate) fn put_parcel(letter: u8, birth: u64, part: &mut LinePart)
     requires { HasRoom 22 part.old }
     ensures { Puts 22 (letter ∷ parcel_fields birth) part.old part.new }

@@ -28,6 +28,7 @@ struct Posting {
 }
 
 /// Adds a message and its outcome to a text, each after a blank, and a line feed.
+#[inline(always)]
 fn write_answered(message: &Frame, answer: Posted, text: &mut Vec<u8>) -> Result<(), AllocError>
     ensures written { OnOk result (text.new.items
         ≡ text.old.items ++ 32 ∷ encode_upper message.now ++ 32 ∷ posted_text answer ++ 10 ∷ []) }
@@ -43,6 +44,7 @@ fn write_answered(message: &Frame, answer: Posted, text: &mut Vec<u8>) -> Result
 }
 
 /// Adds to a text the line of a posted message.
+#[inline(always)]
 pub(crate) fn write_post(
     link: u8,
     table: u16,

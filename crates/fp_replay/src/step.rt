@@ -16,6 +16,7 @@ use fp_book::LoggedStep;
 use std::alloc::{AllocError, Global};
 
 /// Adds the text of a step of this link and a line feed to a text.
+#[inline(always)]
 pub(crate) fn write_step(link: u8, step: &LoggedStep, text: &mut Vec<u8>) -> Result<(), AllocError>
     ensures written { OnOk result (text.new.items ≡ text.old.items ++ text_of (Step link step.now) ++ 10 ∷ []) }
     ensures front { OnErr result (KeepsFront text.old.items text.new.items) }

@@ -12,6 +12,7 @@ use crate::number::{long_number_in, short_number_in};
 use fp_book::{Given, LoggedStep};
 
 /// Puts the letter and the fields of a turn at the front of a part of a line.
+#[inline(always)]
 pub(crate) fn put_turn(letter: u8, birth: u64, position: u64, part: &mut LinePart)
     requires { HasRoom 43 part.old }
     ensures { Puts 43 (letter ∷ turn_fields birth position) part.old part.new }
@@ -39,6 +40,7 @@ fn turn_in(fields: &[u8]) -> Option<(u64, u64)>
 }
 
 /// Puts the letter and the fields of a turn and of this number of its entries at the front of a part of a line.
+#[inline(always)]
 pub(crate) fn put_entries(letter: u8, birth: u64, position: u64, count: u32, part: &mut LinePart)
     requires { HasRoom 64 part.old }
     ensures { Puts 64 (letter ∷ entries_fields birth position count) part.old part.new }
@@ -81,6 +83,7 @@ pub(crate) fn put_back_in(fields: &[u8]) -> Result<LoggedStep, LineFault>
 }
 
 /// Puts the letter and the fields of a turn that was given at the front of a part of a line.
+#[inline(always)]
 pub(crate) fn put_give(birth: u64, position: u64, served: u32, given: Given, part: &mut LinePart)
     requires { HasRoom 86 part.old }
     ensures { Puts 86 (71 ∷ give_fields birth position served given) part.old part.new }

@@ -80,6 +80,7 @@ fn write_component(component: &Component, out: &mut Writer) -> Result<(), AllocE
 }
 
 /// Puts components, one after another.
+#[inline(always)]
 fn write_all(components: &[Component], out: &mut Writer) -> Result<(), AllocError>
     ensures exact { OnOk result (out.new ≡ canon_of_all (component_trees (map component_value components.now)) ++ out.old) }
     ensures components { OnOk result (AreComponents components.now) }
@@ -91,6 +92,7 @@ fn write_all(components: &[Component], out: &mut Writer) -> Result<(), AllocErro
 }
 
 /// Puts the component portion of a message, if there are components.
+#[inline(always)]
 pub(crate) fn write_components(components: &[Component], out: &mut Writer) -> Result<(), AllocError>
     ensures exact { OnOk result (out.new ≡ canon_of_all (portion_trees (map component_value components.now)) ++ out.old) }
     ensures components { OnOk result (AreComponents components.now) }

@@ -21,6 +21,7 @@ use fp_service::{AbortPortion, Components, Request};
 use std::alloc::{AllocError, Global};
 
 /// Puts the portions of a Continue or an End: the AARE that accepts the dialogue, if there is one, and the components.
+#[inline(always)]
 fn write_portions(
     acceptance: Option<Name>,
     components: &Components,

@@ -18,6 +18,7 @@ pub(crate) fn copies(alloc: Global, entries: &[Entry]) -> Result<Entries, AllocE
 
 /// Puts entries after those that a dialogue accepted. The first entries keep the list that they were handed in with,
 /// which takes no memory. If memory runs out, nothing changes.
+#[inline(always)]
 pub(crate) fn append(accepted: &mut Entries, entries: Entries) -> Result<(), AllocError>
     ensures ok { OnOk result (accepted.new ≡ accepted.old ++ entries) }
     ensures first { accepted.old ≡ [] → IsOk result }

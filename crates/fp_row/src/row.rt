@@ -197,6 +197,7 @@ impl Row {
     /// Puts the entries of a message after the others, and answers true. If the dialogue isn't admitted, it answers
     /// false; then, and if memory runs out, nothing changes, and the entries are lost. For no entries memory never runs
     /// out. If you hand in the peer's end or abort, you must also end the dialogue ([`Row::end`]).
+    #[inline(always)]
     pub fn accept(&mut self, entries: Entries) -> Result<bool, AllocError>
         ensures ok { IfOk result (λ taken. (taken ≡ is_admitted self.old) × Accepts taken self.old entries self.new) }
         ensures err { OnErr result (self.new ≡ self.old) }

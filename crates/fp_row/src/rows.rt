@@ -147,6 +147,7 @@ impl Rows {
     }
 
     /// Drops the row under an identifier, if there is one. Takes no memory.
+    #[inline(always)]
     pub fn forget(&mut self, local: u32)
         ensures { self.new ≡ map.remove self.old local }
     {

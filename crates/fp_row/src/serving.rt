@@ -84,6 +84,7 @@ impl Steps {
 
     /// Serves entries of a dialogue until it is over, and returns the result: `core` is the core before them, and then
     /// the one after those that were served. `Err`: memory ran out.
+    #[inline(always)]
     pub(crate) fn of(
         alloc: Global,
         core: &mut Core,

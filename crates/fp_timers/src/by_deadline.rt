@@ -56,6 +56,7 @@ impl ByDeadline {
 
     /// Adds a timer of an identifier that has none: at the end of the first lane where it is last, and else into the
     /// fourth lane. Takes no memory.
+    #[inline(always)]
     pub(crate) fn add(&mut self, timer: Timer)
         requires absent { map.get self.old timer.local ≡ None }
         requires room { map.len self.old < Deadlines.MOST }
@@ -75,6 +76,7 @@ impl ByDeadline {
 
     /// Removes the identifier's timer, if it has one: its deadline is handed in. Then there is room for another one.
     /// Takes no memory.
+    #[inline(always)]
     pub(crate) fn remove(&mut self, local: u32, deadline: Option<u64>)
         requires { deadline ≡ map.get self.old local }
         ensures removed { self.new ≡ map.remove self.old local }

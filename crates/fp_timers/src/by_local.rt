@@ -54,6 +54,7 @@ impl ByLocal {
 
     /// Replaces the timer of this identifier, or adds one, and returns the deadline that the identifier had. Takes no
     /// memory.
+    #[inline(always)]
     pub(crate) fn set(&mut self, timer: Timer) -> Option<u64>
         requires { HasRoom self.old timer.local }
         ensures before { result ≡ map.get self.old timer.local }

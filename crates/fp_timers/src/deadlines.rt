@@ -60,6 +60,7 @@ impl Deadlines {
 
     /// Gives an identifier a deadline, in place of any that it had. The identifier must have one, or there must be
     /// fewer than [`Deadlines::MOST`]. Takes no memory.
+    #[inline(always)]
     pub fn set(&mut self, local: u32, deadline: u64)
         requires { HasRoom self.old local }
         ensures { self.new ≡ map.insert self.old local deadline }
@@ -74,6 +75,7 @@ impl Deadlines {
     }
 
     /// Removes an identifier's deadline, if it has one. Takes no memory.
+    #[inline(always)]
     pub fn clear(&mut self, local: u32)
         ensures { self.new ≡ map.remove self.old local }
     {

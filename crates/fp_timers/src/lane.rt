@@ -64,6 +64,7 @@ impl Lane {
     }
 
     /// Removes the timer, if it is here, and returns whether it was. Takes no memory.
+    #[inline(always)]
     pub(crate) fn remove(&mut self, timer: Timer) -> bool
         ensures removed { IsTrue result → IsWith self.new timer self.old }
         ensures kept { result ≡ false → self.new ≡ self.old }

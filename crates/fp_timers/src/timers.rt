@@ -18,6 +18,7 @@ pub struct Timer {
 
 /// The place of the identifier's timer, or, if it has none, the place for a new one. Most timers are of new
 /// identifiers, whose place is the last, or of the oldest identifier, whose place is the first.
+#[inline(always)]
 pub(crate) fn place_of(timers: &VecDeque<Timer>, local: u32) -> Result<usize, usize>
     requires { IsInOrder timers.now.items }
     ensures found { IfOk result (IsAt timers.now.items local) }
@@ -63,6 +64,7 @@ pub(crate) fn put_at(timers: &mut VecDeque<Timer>, place: usize, timer: Timer)
 }
 
 /// Removes the timer at this place. Most are first, so that no other moves.
+#[inline(always)]
 pub(crate) fn take_away(timers: &mut VecDeque<Timer>, place: usize)
     requires { place < length timers.old.items }
     ensures items { timers.new.items ≡ remove timers.old.items place }
@@ -99,6 +101,7 @@ fn any_before(timers: &VecDeque<Timer>, timer: Timer) -> bool
 
 /// The place of the timer among others in the order of their deadlines, or the place for it if it isn't there. Most go
 /// to one of the ends.
+#[inline(always)]
 pub(crate) fn place_in_time(timers: &VecDeque<Timer>, timer: Timer) -> usize
     requires { IsInTimeOrder timers.now.items }
     ensures { IsPlaceFor timers.now.items timer result }

@@ -76,6 +76,7 @@ fn steps_of<'x, R: Wait>(
 }
 
 /// Counts a line, if the run has counters.
+#[inline(always)]
 fn count(steps: &mut Option<MutexGuard<'_, StepCounts>>, step: &LoggedStep) {
     if let Some(steps) = steps {
         steps.count(step);
