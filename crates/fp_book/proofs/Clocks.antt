@@ -1,5 +1,5 @@
 -- To give dialogues a Clock keeps what a book keeps.
-use Rattle.fp_book.proofs.Names.{All, AllByRecursion, AllPairs, Bool, Clock, ClocksAt, ComesFirst, Due, Ending, Entry, Extends, IsDue, List, LoggedStep, None, Option, Row, Shelf, Some, Sound, Ticks, Totals, [], add-zero, and_from, and_parts, ap, append-nil, append_assoc, arith, cond, deadline_of, due_at, entry_at, eq-eqb, eqb, eqb-true, false, false_from_ne_true, false≢true, get, has_clock, has_turn_out, idle_among, insert, is_admitted, is_among, is_closed, is_due, is_full, is_idle, is_over, is_ready, is_some, joins, leb-false, len, length, length-append, logged, lt-ltb, more_accepted, nat_eq, nat_lt, next_due, not, not-true, one_if, recursion_from_All, refl, slice_index_or, subst, suc, sum_of, sym, true, waits, ℕ, ⊎_elim, ⊤, ◌&&◌, ◌++◌, ◌+◌, ◌<◌, ◌^◌, ◌||◌, ◌∙◌, ◌∷◌, ◌≡◌, ◌≤◌, most_dialogues, all_entries, ◌*◌}
+use Rattle.fp_book.proofs.Names.{All, AllByRecursion, AllPairs, Bool, Clock, ClocksAt, ComesFirst, Due, Ending, Entry, Extends, IsDue, List, LoggedStep, None, Option, Row, Shelf, Some, Sound, Ticks, Totals, [], add-zero, and_from, and_parts, ap, append-nil, append_assoc, arith, cond, deadline_of, due_at, entry_at, eq-eqb, eqb, eqb-true, false, false_from_ne_true, false≢true, get, has_clock, has_turn_out, idle_among, insert, is_admitted, is_among, is_closed, is_due, is_full, is_idle, is_over, is_ready, is_some, joins, leb-false, len, length, length-append, logged, lt-ltb, more_accepted, nat_eq, nat_lt, next_due, not, not-true, one_if, recursion_from_All, refl, slice_index_or, subst, suc, sum_of, sym, true, waits, ℕ, ⊎_elim, ⊤, ◌&&◌, ◌++◌, ◌+◌, ◌<◌, ◌||◌, ◌∙◌, ◌∷◌, ◌≡◌, ◌≤◌, most_dialogues, all_entries, ◌*◌}
 use Rattle.fp_book.proofs.LowerLaws.{LowerLaws}
 use Rattle.fp_book.proofs.Changes.{admitted, one, one_most}
 use Rattle.fp_book.proofs.Extends.{Sound-extended, few_admitted, joined}
