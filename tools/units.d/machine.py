@@ -192,15 +192,15 @@ def records(*lines, one="302223344", more=0, end="\n"):
 
 
 def block(word, section="Under systemd"):
-    """Gives the commands of the block of docs/serving.md that has a word, with the paths of the package if that is tried."""
-    text = (ROOT / "docs/serving.md").read_text().replace(BY_HAND, LIBRARY)
+    """Gives the commands of the block of docs/units.md that has a word, with the paths of the package if that is tried."""
+    text = (ROOT / "docs/units.md").read_text().replace(BY_HAND, LIBRARY)
     if PACKAGE:
         text = text.replace(" examples/", " /usr/share/doc/freephone-scp/examples/")
     text = text[text.index(f"\n## {section}\n"):]
     for found in re.findall(r"```console by-hand\n(.*?)```", text[:text.index("\n## ", 5)], re.S):
         if word in found:
             return "".join(line[2:] + "\n" for line in found.splitlines() if line.startswith(("$ ", "> ")))
-    raise ValueError(f"docs/serving.md has no block with {word}")
+    raise ValueError(f"docs/units.md has no block with {word}")
 
 
 def replay(run):

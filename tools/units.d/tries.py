@@ -368,7 +368,7 @@ def template():
 
 def closed_day():
     """The timer of the document that brings the records of the day."""
-    units = dict(re.findall(r"```ini\n# (/etc/systemd/system/\S+)\n(.*?)```", (ROOT / "docs/serving.md").read_text(), re.S))
+    units = dict(re.findall(r"```ini\n# (/etc/systemd/system/\S+)\n(.*?)```", (ROOT / "docs/units.md").read_text(), re.S))
     for path, text in units.items():
         pathlib.Path(path).write_text(text)
     status, text = sh("systemctl daemon-reload; systemd-analyze verify /etc/systemd/system/scp-day.timer && "
