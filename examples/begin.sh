@@ -1,5 +1,5 @@
 # shellcheck shell=bash
-# Functions for bash: `begin KEY CALLED [CALLING]` prints a Begin with InitialDP, with national numbers, as `scp ask` reads it.
+# For bash: `begin KEY CALLED [CALLING]` prints a Begin with InitialDP and national numbers, in a line, for `scp ask`.
 
 # An element: its tag, its length, its contents; all as hexadecimal digits.
 element() { printf '%s%02X%s' "$1" $((${#2} / 2)) "$2"; }
