@@ -4,8 +4,10 @@ use Rattle.std.proofs.KnownBytes.{Appends-nil, Appends-trans}
 use Rattle.std.proofs.lemmas.List.Elements.{All-append, All-cons, All-nil}
 use Rattle.std.proofs.lemmas.List.Folds.{concat-append}
 use Rattle.std.specs.Io.KnownBytes.{Appends}
-use Rattle.fp_serve.specs.declared.run.status.LinkStatus.{LinkStatus}
-use Rattle.fp_serve.specs.Report.{IsAnswer, TellsAnswers, TellsOfCounters, TellsOfNumber, links_answer, reloaded_line}
+use Rattle.fp_serve.specs.Report.{IsAnswer, TellsAnswers, reloaded_line}
+use Rattle.fp_watch.specs.Links.{links_answer}
+use Rattle.fp_watch.specs.Numbers.{TellsOfCounters, TellsOfNumber}
+use Rattle.fp_watch.specs.declared.link_status.LinkStatus.{LinkStatus}
 
 module _ (last first_link : ℕ) (has_commands : Bool) (a b : Option (List ℕ)) where
   -- nothing was written

@@ -14,9 +14,9 @@
 //!   written ([`WhenLogFails`]), and which commands are known.
 //! * [`Commands`] are the requests to a run while it lasts: to read its records again, by an [`Operator`]; to print the
 //!   status of its links ([`LinkStatus`]), or its counters, also of a called number; and to end.
-//! * [`Watched`] has the counters ([`Metrics`]), and the listener for requests of them.
+//! * [`Watched`] has the counters ([`Metrics`]), and the listener for requests of them, both of `fp_watch`.
 //! * [`ServeFault`] says why a run failed.
-//! * [`Events`] are lines that say which link went up or down and why, if they are asked for.
+//! * [`Events`] are lines that say which link went up or down and why, if they are asked for ([`Event`] of `fp_watch`).
 //!
 //! ```text
 //!                        Server: accepts, then joins
@@ -28,10 +28,7 @@
 //!   clock  --tick, hint---------> +------------+
 //!     |                             |exchange_log, by the receiver too
 //!     \-- once a second, or 512 --->v
-//!                                LinkLog (one for each link)
-//!                                   |the text of all that wait, at once
-//!                                   v
-//!                                LogWriter --> the log (one thread of the run, which belongs to no scope)
+//!                                LogSide, LinkLog (one for each link) --> LogWriter: `fp_runlog`
 //! ```
 //!
 //! After it posted frames, the receiver helps: it serves the ready turns, up to a bound, and sends the waiting frames
@@ -40,8 +37,9 @@
 //! by whichever thread sends.
 //!
 //! After each post the receiver makes the text of the log lines of its link, if 64 wait. Otherwise the clock makes it
-//! once a second, and it is woken if 512 wait; if many do, the other threads move some of them out of the book too.
-//! Only the writing thread waits for the device of the log, and for a bounded time a receiver does.
+//! once a second, and it is woken if 512 wait; if many do, the other threads move some of them out of the book too. One
+//! thread of the run writes the log, and belongs to no scope. Only it waits for the device of the log, and for a bounded
+//! time a receiver does.
 //!
 //! The connection of a link is a socket or, in a run that is a node, its network (`LinkStream`). The receiver then
 //! drives the network while it waits, and whichever thread sends writes to the network's sockets as far as they take
@@ -55,9 +53,7 @@
 //! | `run/` | the run: its inputs, its context, commands, status, events, report, and a thread for each link |
 //! | `link/` | a link: its threads, their shared state, and its end |
 //! | `socket/` | connections: awaiting, watching, reading and writing them |
-//! | `log/` | the log, from the lines that a book hands out to the device |
-//! | `watch/` | the counters of a run, over those of its links (`fp_tally`), and the thread that answers its watchers |
-//! | `moment.rt`, `system.rt` | the time; the needs of a run from the system, and the start of a thread of no scope |
+//! | `moment.rt`, `system.rt` | the tag by the time; the needs of a run from the system, and the start of a thread of no scope |
 //!
 //! The links of a run have the numbers from its first link on. Inside, a link is known by its place among them, from 0;
 //! its number is in its book, in the report, in events and in the answers to commands.
@@ -65,23 +61,24 @@
 //! The layer above may rely on this: if [`Server::serve`] returns without a fault, it wrote the address, the answers to
 //! commands, and a line for each link, after one with zeros for each number below the first link, and nothing else
 //! (`specs/Report.antt`). `fp_hub` states the guarantees of a link's book, seats and hub, `fp_linkio` those of reading
-//! frames and writing parcels, and `fp_tally` those of its counters. No contract speaks of the octets of sockets and
-//! the log, or says that the threads get on, or that each does its part in the picture: `tests_serve`, over loopback,
-//! and `tools/attacks`, over the built program, test these.
+//! frames and writing parcels, `fp_tally` those of its counters, and `fp_watch` those of their text. No contract speaks
+//! of the octets of sockets and the log, or says that the threads get on, or that each does its part in the picture:
+//! `tests_serve`, over loopback, and `tools/attacks`, over the built program, test these.
 #![tactic(auto)]
 
 mod link;
-mod log;
 mod moment;
 mod run;
 mod socket;
 mod system;
-mod watch;
 
 pub use fp_linkstate::Why;
+pub use fp_runlog::WhenLogFails;
+pub use fp_watch::{
+    Event, LinkStatus, Metrics, MetricsListener, Peer, PeerName, RecentEvents, Version, Wanted,
+    Watched,
+};
 pub use run::{
-    Commands, Event, Events, LinkStatus, Links, Operator, Peer, PeerName, Refusal, ServeFault,
-    Server, Service, Settings, StandingLink, Version, Wanted, WhenLogFails,
+    Commands, Events, Links, Operator, Refusal, ServeFault, Server, Service, Settings, StandingLink,
 };
 pub use system::System;
-pub use watch::{Metrics, MetricsListener, RecentEvents, Watched};

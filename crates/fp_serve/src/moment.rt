@@ -1,51 +1,24 @@
-//! The time of day, and time that went by.
+//! The tag that a run takes from the time of day, and the wait for the next second.
 
-ghost use Rattle.std.specs.Prelude.{◌≡◌, ◌≤◌, ◌-◌, ◌/◌, min};
-ghost use Rattle.std.specs.Duration.{as_nanos};
+ghost use Rattle.std.specs.Prelude.{◌≡◌, ◌≤◌};
 ghost use Rattle.fp_serve.specs.Tag.{tag_by};
 
 use crate::run::{Events, Links};
 use crate::socket::report_news;
 use fp_digits::Moment;
 use fp_network::NetworkLink;
+use fp_tally::{now, time_since};
 use fp_tids::LocalIds;
 use std::rt::Clock;
 use std::sync::Wait;
 use std::thread;
-use std::time::{Duration, Instant, SystemTime, UNIX_EPOCH};
+use std::time::{Duration, Instant};
 
 /// The number of milliseconds in a second.
 const MILLISECONDS_OF_A_SECOND: u64 = 1_000;
 
 /// The most waits for the next second: it takes more than one if the clock runs slowly or was set back.
 const MOST_WAITS: u32 = 3;
-
-/// The present moment. If the clock gives no time, or one before 1970, it is the first moment, and from the year 2100
-/// on the last.
-pub(crate) fn now<R: Clock>(rt: &R) -> Moment {
-    let Ok(time) = SystemTime::now(rt) else {
-        return moment_after(Duration::ZERO);
-    };
-    moment_after(time.duration_since(UNIX_EPOCH).unwrap_or(Duration::ZERO))
-}
-
-/// The time since then. `None` if the clock gives no time.
-pub(crate) fn time_since<R: Clock>(rt: &R, then: Option<Instant>) -> Option<Duration> {
-    then?.elapsed(rt).ok()
-}
-
-/// The moment this long after 1970-01-01T00:00:00Z, parts of a millisecond dropped; or the last that there is, if that
-/// is later.
-fn moment_after(since: Duration) -> Moment
-    ensures { result ≡ min (as_nanos since / 1000000) (Moment.END - 1) }
-{
-    let last = Moment::END - 1;
-    let milliseconds = u64::try_from(since.as_millis()).unwrap_or(last).min(last);
-    match Moment::new(milliseconds) {
-        Some(moment) => moment,
-        None => unreachable!(),
-    }
-}
 
 /// The tag of the second of a moment: 1 to 4,094.
 pub(crate) fn tag_of(moment: Moment) -> u16

@@ -2,7 +2,7 @@
 //! events.
 //!
 //! The layer is handed log lines, parcels, the status of the book, moments and the newest records. It takes memory and
-//! locks, and reads the clock for the times of answers. It starts no thread, and knows no book and no socket.
+//! locks, and reads the clock. It starts no thread, and knows no book and no socket.
 //!
 //! ```text
 //!   thread          call                          counts
@@ -22,6 +22,7 @@
 //! * [`NumberCounts`] has the counters of each called number ([`CalledNumber`]), if the run counts numbers.
 //!   [`LineCounts`] counts lines that left the book together, and then the frames that were sent before. `called.rt`
 //!   and `plain_begin.rt` find the number that a Begin calls.
+//! * [`now`] and [`time_since`] read the clock, for the threads of a run.
 //!
 //! The layer above may rely on this: [`StepCounts::count`] counts what `fp_counters` defines for a step, and
 //! [`LinkMetrics::count_parcel`] what it defines for the frame of a request or for an Abort of the provider. No
@@ -32,6 +33,7 @@
 mod called;
 mod frames;
 mod link_metrics;
+mod moment;
 mod number_counts;
 mod number_rows;
 mod plain_begin;
@@ -39,4 +41,5 @@ mod sample;
 
 pub use called::CalledNumber;
 pub use link_metrics::{LinkMetrics, SentCounts, StepCounts};
+pub use moment::{now, time_since};
 pub use number_counts::{LineCounts, NumberCounts};

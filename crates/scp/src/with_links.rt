@@ -390,7 +390,8 @@ fn watched<H: AllocGlobal>(
     };
     let metrics = Metrics::new(
         rt.alloc(),
-        asked.settings,
+        asked.settings.first_link,
+        asked.settings.links,
         version(),
         digest,
         counts,

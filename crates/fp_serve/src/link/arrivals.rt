@@ -3,9 +3,7 @@
 use crate::link::Link;
 use crate::link::hold_back::HoldBack;
 use crate::link::turns::LineGate;
-use crate::log::LogWait;
-use crate::moment::now;
-use crate::run::{Event, Service, Stop};
+use crate::run::{Service, Stop};
 use crate::system::System;
 use fp_apdu::Name;
 use fp_digits::Moment;
@@ -15,6 +13,9 @@ use fp_hub::{Gate, Seat};
 use fp_linkio::{Counted, Ended, Inbox, receive};
 use fp_linkstate::{ArrivalQueue, LinkEvent, Reading, Why, queue_keeps_order};
 use fp_records::Table;
+use fp_runlog::LogWait;
+use fp_tally::now;
+use fp_watch::Event;
 use std::alloc::Global;
 use std::collections::VecDeque;
 use std::rt::Clock;
@@ -186,10 +187,10 @@ impl<R: System, G: Gate, A: Ledger, B: Ledger, C: Ledger> Arrivals<'_, R, G, A, 
 
     /// Waits until places for log lines are free, if they may soon run out. The parcels that may wait are sent before.
     fn await_places(&mut self) {
-        self.link.move_lines_if_many();
-        if self.link.lacks_places() {
+        self.link.log.move_lines_if_many();
+        if self.link.log.lacks_places() {
             self.send_or_put_off(false);
-            self.link.await_places(&mut self.log_wait);
+            self.link.log.await_places(&mut self.log_wait);
         }
     }
 
@@ -224,7 +225,7 @@ impl<R: System, G: Gate, A: Ledger, B: Ledger, C: Ledger> Arrivals<'_, R, G, A, 
                 self.unsent = Unsent::Some;
             }
             self.send_or_put_off(may_have_more);
-            self.link.make_own_text();
+            self.link.log.make_own_text();
             self.await_places();
             self.await_room();
         }

@@ -3,14 +3,13 @@
 ghost use Rattle.std.specs.Prelude.{◌≡◌, IfErr};
 
 use crate::link::Link;
-use crate::moment::time_since;
 use crate::socket::TracedStream;
 use crate::system::System;
 use fp_book::{Parcel, Picked};
 use fp_hub::{Next, Reports, Seat, SentAndNext};
 use fp_linkio::{Counted, DeviceFault, Ended, Gathered, LinkWrite, Outlet, send_loop};
 use fp_linkstate::{LinkEvent, Why};
-use fp_tally::{LinkMetrics, SentCounts};
+use fp_tally::{LinkMetrics, SentCounts, time_since};
 use std::alloc::{AllocError, Global};
 use std::sync::ledger::Ledger;
 use std::sync::{MutexGuard, Wait};
@@ -295,7 +294,7 @@ impl<'x, R: System, A: Ledger, B: Ledger, C: Ledger> Link<'x, R, A, B, C> {
         let mut seat = seat;
         let rt = self.run.rt;
         for _ in rt.forever() {
-            self.move_lines_if_many();
+            self.log.move_lines_if_many();
             let Some(parcel) = self.hub.await_parcel(rt) else {
                 break;
             };

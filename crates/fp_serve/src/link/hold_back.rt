@@ -3,7 +3,7 @@
 //! TCP doesn't hold a transfer point back: it keeps the messages that it can't send, without bound. So a message is
 //! held back for a fifth of a second after it was read, and is posted then, whether there is room or not.
 
-use crate::moment::time_since;
+use fp_tally::time_since;
 use std::rt::Clock;
 use std::time::{Duration, Instant};
 

@@ -4,16 +4,16 @@ ghost use Rattle.std.specs.Prelude.{◌<◌};
 ghost use Rattle.fp_hub.specs.Shares.{AreBlanks};
 
 use crate::link::departures::Outgoing;
-use crate::log::LinkLog;
-use crate::moment::{now, time_since};
-use crate::run::{Event, Run, ServeFault};
+use crate::run::{LoggedRun, Run, ServeFault};
 use crate::socket::{LinkStream, TracedStream};
 use crate::system::System;
 use crossbeam_utils::CachePadded;
 use fp_book::{Status, Totals};
 use fp_hub::{Gate, Hub, PARTS, finish};
 use fp_linkstate::{Action, LinkEnd, LinkEvent, Why};
-use fp_tally::LinkMetrics;
+use fp_runlog::LogSide;
+use fp_tally::{LinkMetrics, now, time_since};
+use fp_watch::Event;
 use std::marker::Brand;
 use std::net::Shutdown;
 use std::sync::Mutex;
@@ -41,8 +41,8 @@ pub(crate) struct Link<'x, R, A: Ledger, B: Ledger, C: Ledger> {
     pub(crate) stream: &'x LinkStream,
     // The state of the link's end.
     pub(crate) end: &'x Mutex<LinkEnd>,
-    // The log lines that wait for the thread that writes the log.
-    pub(crate) lines: &'x LinkLog,
+    // The link as its log sees it.
+    pub(crate) log: LogSide<'x, R, LoggedRun, A, B, C>,
     // The octets on their way to its socket.
     pub(crate) outgoing: &'x Mutex<Outgoing>,
     // The counters of the link, if the run has counters.
@@ -160,11 +160,6 @@ impl<'x, R: System, A: Ledger, B: Ledger, C: Ledger> Link<'x, R, A, B, C> {
     pub(crate) fn is_quiet(&self) -> bool {
         self.hub.await_quiet(self.run.rt, Duration::ZERO) && self.outgoing.try_lock().is_some()
     }
-
-    /// Whether no more messages are posted: the link is down, or the links are to end.
-    pub(crate) fn is_ending(&self) -> bool {
-        self.run.stop.is_quitting() || self.hub.is_down(self.run.rt)
-    }
 }
 
 /// The counters of a link, if the run has counters.
@@ -205,20 +200,29 @@ impl<
         };
         let end = Mutex::new(LinkEnd::new());
         let outgoing = CachePadded::new(Mutex::new(outgoing));
+        let metrics = metrics_of(run, plan);
         let link = Link {
             run,
             plan,
             hub: &hub,
             stream,
             end: &end,
-            lines,
+            log: LogSide {
+                rt,
+                alloc,
+                log: run.log,
+                lines,
+                hub: &hub,
+                tables: run.service.tables,
+                metrics,
+            },
             outgoing: &*outgoing,
-            metrics: metrics_of(run, plan),
+            metrics,
         };
         link.note_up();
         let seat = link.run_threads(gate, seat);
         stream.finish(run);
-        link.make_last_text();
+        link.log.make_last_text();
         link.note_status();
         let totals = finish(hub, seat);
         if totals.is_none() {

@@ -1,10 +1,10 @@
 //! The clock of a link.
 
 use crate::link::Link;
-use crate::log::Left;
-use crate::moment::{now, time_since};
 use crate::system::System;
 use fp_linkstate::{LinkEnd, LinkEvent};
+use fp_runlog::Left;
+use fp_tally::{now, time_since};
 use std::sync::ledger::Ledger;
 use std::time::{Duration, Instant};
 
@@ -68,7 +68,7 @@ impl<R: System, A: Ledger, B: Ledger, C: Ledger> Link<'_, R, A, B, C> {
                 self.tick();
             }
             self.look_at_clock();
-            left = self.make_text();
+            left = self.log.make_text();
             if hub.is_down(rt) {
                 break;
             }

@@ -16,12 +16,12 @@ pub(crate) struct LineGate<'x, R, G: Gate, A: Ledger, B: Ledger, C: Ledger> {
 impl<R: System, G: Gate, A: Ledger, B: Ledger, C: Ledger> Gate for LineGate<'_, R, G, A, B, C> {
     fn pass(&self, link: u8, birth: u64, position: u64) {
         self.gate.pass(link, birth, position);
-        self.link.move_lines_if_many();
+        self.link.log.move_lines_if_many();
     }
 
     fn after_hold(&self) {
         self.gate.after_hold();
-        self.link.move_lines_if_many();
+        self.link.log.move_lines_if_many();
     }
 }
 

@@ -1,19 +1,16 @@
 //! The commands of a run, executed one after another until it is over.
 
 ghost use Rattle.std.specs.Prelude.{◌≤◌, IfOk, IfSome, OnOk, string_bytes};
-ghost use Rattle.fp_serve.specs.Report.{TellsAnswers, TellsNumber, TellsOfCounters, TellsOfLinks, TellsOfNumber};
+ghost use Rattle.fp_serve.specs.Report.{TellsAnswers, TellsOfLinks};
 
-use crate::moment::time_since;
-use crate::run::report::{answer_of, write_flushed, write_reloaded};
+use crate::run::report::{write_flushed, write_reloaded};
 use crate::run::{Run, ServeFault, Statuses};
 use crate::system::System;
-use crate::watch::Watch;
 use crossbeam_channel::Receiver;
-use fp_counters::Counters;
 use fp_hub::Tables;
-use fp_metrics::number_text;
 use fp_streams::LinkWrite;
-use fp_tally::CalledNumber;
+use fp_tally::{CalledNumber, time_since};
+use fp_watch::{links_answer, number_answer};
 use std::alloc::{AllocError, Global};
 use std::rt::Clock;
 use std::sync::Wait;
@@ -23,9 +20,6 @@ use thiserror::Error;
 
 /// How many commands that were read may wait.
 pub(crate) const MOST_WAITING: usize = 16;
-
-/// The line after the counters.
-const END_OF_COUNTERS: &str = "# EOF\n";
 
 /// The time between two looks whether replaced tables can be freed, in seconds.
 const REST_SECONDS: u64 = 1;
@@ -109,17 +103,7 @@ fn links_text<R: Wait>(run: &Run<'_, R>) -> Result<String, AllocError>
 {
     let alloc = run.service.alloc;
     let links = run.statuses.links(run.rt, alloc)?;
-    answer_of(alloc, run.settings.first_link, links.as_slice())
-}
-
-/// The answer to `counters`.
-fn counters_text<R: Wait>(run: &Run<'_, R>, watch: &Watch) -> Result<String, AllocError>
-    ensures { IfOk result (λ text. TellsOfCounters (string_bytes text)) }
-{
-    let alloc = run.service.alloc;
-    let mut text = watch.metrics.text(run.rt, alloc, &watch.log)?;
-    text.push_str(END_OF_COUNTERS)?;
-    Ok(text)
+    links_answer(alloc, run.settings.first_link, links.as_slice())
 }
 
 /// Writes the counters, if more commands are known and the run has counters; else the command isn't known. If memory
@@ -141,7 +125,7 @@ fn answer_counters<R: System, O: Operator, W: LinkWrite>(
         operator.refuse(Refusal::Unknown);
         return Ok(());
     }
-    match counters_text(run, watch) {
+    match watch.counters_text(run.rt, run.service.alloc) {
         Ok(text) => write_flushed(text.as_str(), output),
         Err(_) => {
             operator.fail(ServeFault::Memory);
@@ -160,27 +144,6 @@ fn drain<R, O: Operator>(run: &Run<'_, R>, operator: &mut O) {
     if !draining.drain.set() {
         operator.refuse(Refusal::NoOwnUnit);
     }
-}
-
-/// The counters of a called number.
-fn number_lines(alloc: Global, digits: &str, counters: &Counters) -> Result<String, AllocError>
-    ensures { IfOk result (λ text. TellsNumber (string_bytes text)) }
-{
-    number_text(alloc, digits, counters)
-}
-
-/// The answer to `counters NUMBER`.
-fn number_answer(
-    alloc: Global,
-    number: CalledNumber,
-    counters: &Counters,
-) -> Result<String, AllocError>
-    ensures { IfOk result (λ text. TellsOfNumber (string_bytes text)) }
-{
-    let digits = number.text(alloc)?;
-    let mut text = number_lines(alloc, digits.as_str(), counters)?;
-    text.push_str(END_OF_COUNTERS)?;
-    Ok(text)
 }
 
 /// Writes the counters of a called number, if more commands are known and the run counts numbers; else the operator

@@ -1,8 +1,8 @@
 //! The state that all threads of a run share.
 
-use crate::log::Log;
-use crate::run::{Draining, Events, Service, Settings, Statuses, Stop};
-use crate::watch::Watch;
+use crate::run::{Draining, Events, LoggedRun, RunState, Service, Settings, Statuses, Stop};
+use fp_runlog::RunLog;
+use fp_watch::Watch;
 
 /// The state that all threads of a run share, except those that write its log and its events.
 #[derive_where(Clone, Copy)]
@@ -13,9 +13,9 @@ pub(crate) struct Run<'x, R> {
     pub(crate) statuses: &'x Statuses,
     pub(crate) events: &'x Events,
     pub(crate) stop: &'x Stop,
-    pub(crate) log: &'x Log,
+    pub(crate) log: &'x RunLog<LoggedRun>,
     // The counters, if the run has them.
-    pub(crate) watch: &'x Option<Watch>,
+    pub(crate) watch: &'x Option<Watch<RunState>>,
     // The drain of the node, if a network carries the link.
     pub(crate) draining: &'x Option<Draining>,
 }

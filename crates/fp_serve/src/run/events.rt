@@ -1,22 +1,16 @@
 //! The events of a run, as lines on standard error: which links went up and down, which records were read again, and
-//! whether the log is written.
+//! whether the log is written. `fp_watch` has the events and their lines.
 //!
 //! Standard error may block, and no thread that reports an event waits for it: the event goes into a channel of bounded
 //! length, and a thread of its own writes the events from there. If the run has a page, the event goes into the list of
 //! the last ones, too.
 
-use crate::moment::now;
-use crate::run::{Peer, ServeFault};
+use crate::run::ServeFault;
 use crate::system::{System, start_thread};
-use crate::watch::RecentEvents;
-use arrayvec::ArrayString;
 use crossbeam_channel::{Receiver, Sender, bounded};
-use fp_digits::Moment;
-use fp_linkstate::Why;
-use fp_network::NetworkEvent;
-use jiff::Timestamp;
+use fp_tally::now;
+use fp_watch::{Event, RecentEvents, TimedEvent, Wanted};
 use std::alloc::{AllocError, Global};
-use std::fmt;
 use std::io::Write;
 use std::rt::Clock;
 use std::sync::{Arc, Wait};
@@ -28,155 +22,6 @@ const MOST_EVENTS: usize = 1_024;
 /// How long the end of a run waits for a place in a channel that is full, and for its last events to be written, in
 /// seconds.
 const PATIENCE_SECONDS: u64 = 1;
-
-/// The version of a program, in at most 20 octets.
-pub type Version = ArrayString<20>;
-
-/// An event of a run.
-#[derive(Clone, Copy, Debug, PartialEq, Eq)]
-pub enum Event {
-    /// The run began, with a program of this version.
-    Program {
-        /// The version.
-        version: Version,
-    },
-    /// The records were read from a file of this SHA-256 digest.
-    Records {
-        /// The digest.
-        digest: [u8; 32],
-    },
-    /// The records were read again, from a file of this SHA-256 digest.
-    Reloaded {
-        /// The index of the records among those of the run, from 1.
-        index: u32,
-        /// The digest.
-        digest: [u8; 32],
-    },
-    /// A link went up.
-    Up {
-        /// The number of the link.
-        link: u8,
-        /// The peer of the link.
-        peer: Peer,
-    },
-    /// A link went down.
-    Down {
-        /// The number of the link.
-        link: u8,
-        /// The first reason for it.
-        why: Why,
-    },
-    /// Messages of a link were held back for the longest time allowed, and then posted.
-    Late {
-        /// The number of the link.
-        link: u8,
-        /// The number of messages.
-        messages: u64,
-    },
-    /// An event of the network that carries the link.
-    Network(NetworkEvent),
-    /// The log can't be written, and the run goes on.
-    LogFails,
-    /// The log is written again.
-    LogGoesOn,
-    /// Lines of a link found no place, and the log has a gap there.
-    LogGap {
-        /// The number of the link.
-        link: u8,
-        /// The number of lines.
-        lines: u64,
-    },
-    /// The run ended without having written this number of lines.
-    LogLost {
-        /// The number of lines.
-        lines: u64,
-    },
-}
-
-/// Writes a digest in hexadecimal digits.
-fn write_digest<W: fmt::Write>(digest: &[u8; 32], f: &mut fmt::Formatter<W>) -> fmt::Result {
-    for octet in digest {
-        write!(f, "{octet:02x}")?;
-    }
-    Ok(())
-}
-
-impl fmt::Display for Event {
-    fn fmt<W: fmt::Write>(&self, f: &mut fmt::Formatter<W>) -> fmt::Result {
-        match self {
-            Event::Program { version } => write!(f, "scp {}", version.as_str()),
-            Event::Records { digest } => {
-                f.write_str("records ")?;
-                write_digest(digest, f)
-            }
-            Event::Reloaded { index, digest } => {
-                write!(f, "reloaded {index} ")?;
-                write_digest(digest, f)
-            }
-            Event::Up { link, peer } => write!(f, "link {link} up {peer}"),
-            Event::Down { link, why } => write!(f, "link {link} down {why}"),
-            Event::Late { link, messages: 1 } => {
-                write!(f, "link {link}: 1 message was held back too long")
-            }
-            Event::Late { link, messages } => {
-                write!(
-                    f,
-                    "link {link}: {messages} messages were held back too long"
-                )
-            }
-            Event::Network(event) => event.fmt(f),
-            Event::LogFails => f.write_str("log: cannot be written, lines are lost"),
-            Event::LogGoesOn => f.write_str("log: written again"),
-            Event::LogGap { link, lines: 1 } => write!(f, "link {link} log: 1 line is lost"),
-            Event::LogGap { link, lines } => write!(f, "link {link} log: {lines} lines are lost"),
-            Event::LogLost { lines: 1 } => f.write_str("log: 1 line is lost"),
-            Event::LogLost { lines } => write!(f, "log: {lines} lines are lost"),
-        }
-    }
-}
-
-/// The events that are written.
-#[derive(Clone, Copy, Debug, PartialEq, Eq)]
-pub enum Wanted {
-    /// All of them, each after its moment.
-    All,
-    /// Only `LogFails` and `LogGoesOn`, without a moment.
-    LogFaults,
-}
-
-impl Wanted {
-    /// Whether this event is written.
-    fn includes(self, event: &Event) -> bool {
-        match self {
-            Wanted::All => true,
-            Wanted::LogFaults => matches!(event, Event::LogFails | Event::LogGoesOn),
-        }
-    }
-}
-
-/// An event, and its moment.
-#[derive(Clone, Copy)]
-pub(crate) struct TimedEvent {
-    pub(crate) moment: Moment,
-    pub(crate) event: Event,
-}
-
-impl TimedEvent {
-    /// The line of the event, with its moment.
-    pub(crate) fn line_of_all(&self, alloc: Global) -> Result<String, AllocError> {
-        self.line(alloc, Wanted::All)
-    }
-
-    /// The line of the event.
-    fn line(&self, alloc: Global, wanted: Wanted) -> Result<String, AllocError> {
-        let event = self.event;
-        let milliseconds = i64::try_from(self.moment.milliseconds()).unwrap_or(i64::MAX);
-        match (wanted, Timestamp::from_millisecond(milliseconds)) {
-            (Wanted::All, Ok(moment)) => format!(in alloc; "{moment:.3} {event}\n"),
-            (Wanted::All | Wanted::LogFaults, _) => format!(in alloc; "{event}\n"),
-        }
-    }
-}
 
 /// A message to the thread that writes events.
 #[derive(Clone, Copy, Drop)]

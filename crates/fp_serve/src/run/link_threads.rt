@@ -2,11 +2,12 @@
 
 use crate::link::{Plan, run_link};
 use crate::run::report::NOTHING;
-use crate::run::{Links, Peer, Run, ServeFault, Settings, StandingLink};
+use crate::run::{Links, Run, ServeFault, Settings, StandingLink};
 use crate::socket::{LinkStream, connection};
 use crate::system::System;
 use fp_book::Totals;
 use fp_hub::Gate;
+use fp_watch::Peer;
 use std::alloc::{AllocError, Global};
 use std::net::TcpListener;
 use std::thread;

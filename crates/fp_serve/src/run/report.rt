@@ -1,12 +1,13 @@
 //! The lines that a run writes: its address, the answers to its commands, and the report on its links.
 
-ghost use Rattle.std.specs.Prelude.{◌≡◌, ◌≤◌, ◌+◌, IfOk, OnOk, string_bytes};
+ghost use Rattle.std.specs.Prelude.{◌≡◌, ◌≤◌, IfOk, OnOk, string_bytes};
 ghost use Rattle.std.specs.Io.KnownBytes.{Appends};
 ghost use Rattle.std.specs.Net.Text.{socket_text};
 ghost use Rattle.fp_replay.specs.Replayed.{report_line};
-ghost use Rattle.fp_serve.specs.Report.{beginning, counts, lines_by, links_answer, listening_line, reloaded_line, status_line, with_links_below};
+ghost use Rattle.fp_serve.specs.Report.{listening_line, reloaded_line, with_links_below};
+ghost use Rattle.fp_watch.specs.Links.{lines_by};
 
-use crate::run::{LinkStatus, ServeFault};
+use crate::run::ServeFault;
 use fp_book::Totals;
 use fp_replay::report_line;
 use fp_streams::{LinkWrite, write_all};
@@ -71,68 +72,6 @@ fn report(alloc: Global, totals: &[Totals]) -> Result<String, AllocError>
         let line = report_line(alloc, link, *counted)?;
         text.push_str(line.as_str())?;
     }
-    Ok(text)
-}
-
-/// The beginning of the status line of a link.
-fn beginning(alloc: Global, link: usize, is_down: bool, peer: &str) -> Result<String, AllocError>
-    ensures { IfOk result (λ text. string_bytes text ≡ beginning link is_down peer.now) }
-{
-    if is_down {
-        format!(in alloc; "link {link} down {peer} accepted ")
-    } else {
-        format!(in alloc; "link {link} up {peer} accepted ")
-    }
-}
-
-/// The rest of the status line.
-fn counts(alloc: Global, totals: Totals, dialogues: usize) -> Result<String, AllocError>
-    ensures { IfOk result (λ text. string_bytes text ≡ counts totals dialogues) }
-{
-    let Totals {
-        accepted,
-        served,
-        sent,
-    } = totals;
-    format!(in alloc; "{accepted} served {served} sent {sent} held {dialogues}\n")
-}
-
-/// The status line of a link.
-fn status_line(alloc: Global, link: usize, known: LinkStatus) -> Result<String, AllocError>
-    ensures { IfOk result (λ text. string_bytes text ≡ status_line link known) }
-{
-    let LinkStatus { peer, status } = known;
-    let peer = peer.text(alloc)?;
-    let mut line = beginning(alloc, link, status.is_down, peer.as_str())?;
-    let counts = counts(alloc, status.totals, status.dialogues)?;
-    line.push_str(counts.as_str())?;
-    Ok(line)
-}
-
-/// The status line of each of these links, in their order. Their numbers begin with this one.
-fn status_lines(alloc: Global, first_link: u8, links: &[LinkStatus]) -> Result<String, AllocError>
-    ensures { IfOk result (λ text. string_bytes text ≡ lines_by (λ place. status_line (first_link + place)) 0 links.now) }
-{
-    let mut text = String::new(alloc);
-    for (place, known) in links.iter().enumerate() {
-        let line = status_line(alloc, usize::from(first_link) + place, *known)?;
-        text.push_str(line.as_str())?;
-    }
-    Ok(text)
-}
-
-/// The answer to `links`: the status lines, and the number of links.
-pub(crate) fn answer_of(
-    alloc: Global,
-    first_link: u8,
-    links: &[LinkStatus],
-) -> Result<String, AllocError>
-    ensures { IfOk result (λ text. string_bytes text ≡ links_answer first_link links.now) }
-{
-    let mut text = status_lines(alloc, first_link, links)?;
-    let count = links.len();
-    let line = format!(in alloc; "links {count}\n")?;
-    text.push_str(line.as_str())?;
     Ok(text)
 }
 

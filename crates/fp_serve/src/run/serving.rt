@@ -3,24 +3,25 @@
 ghost use Rattle.std.specs.Prelude.{◌≡◌, ◌≤◌, ◌<◌, ◌+◌, OnOk, length};
 ghost use Rattle.std.specs.Io.KnownBytes.{Appends};
 ghost use Rattle.fp_replay.specs.Replayed.{report_line};
-ghost use Rattle.fp_serve.specs.Report.{TellsAnswers, TellsLinks, lines_by, with_links_below};
+ghost use Rattle.fp_serve.specs.Report.{TellsAnswers, TellsLinks, with_links_below};
+ghost use Rattle.fp_watch.specs.Links.{lines_by};
 
-use crate::log::{Log, start_log};
-use crate::moment::{await_next_second, now, tag_of};
+use crate::moment::{await_next_second, tag_of};
 use crate::run::command_lines::start_reading;
 use crate::run::commands::{Commands, MOST_WAITING, Notice, Operator, follow};
 use crate::run::link_threads::run_links;
+use crate::run::logging::start_log;
 use crate::run::report::{write_address, write_report};
-use crate::run::{
-    Draining, Event, Events, PeerName, Run, ServeFault, Service, Settings, Statuses, Stop,
-};
+use crate::run::watching::{end_watch, start_watch};
+use crate::run::{Draining, Events, Run, ServeFault, Service, Settings, Statuses, Stop};
 use crate::system::System;
-use crate::watch::{Watch, Watched, start_listening};
 use crossbeam_channel::{Receiver, Sender, bounded};
 use fp_book::Totals;
 use fp_hub::{Gate, OpenGate};
 use fp_network::{Drain, NetworkLink};
 use fp_streams::LinkWrite;
+use fp_tally::now;
+use fp_watch::{Event, PeerName, Watched};
 use std::alloc::{AllocError, Global};
 use std::io::Read;
 use std::net::{SocketAddr, TcpListener};
@@ -263,40 +264,6 @@ impl<
         };
         let counted = run.serve_and_follow(gate, links, &sender, &notices, &mut operator, output)?;
         run.report(counted.as_slice(), output)
-    }
-}
-
-/// Shares the counters with those who ask for them, and starts the thread that answers them, if there is one.
-fn start_watch<R: System + Copy + Send + 'static>(
-    rt: &R,
-    alloc: Global,
-    watched: Option<Watched>,
-    log: &Arc<Log>,
-    stop: &Arc<Stop>,
-    draining: &Option<Draining>,
-) -> Result<Option<Watch>, ServeFault> {
-    let Some(Watched { metrics, listener }) = watched else {
-        return Ok(None);
-    };
-    let watch = Watch {
-        metrics,
-        log: Arc::try_clone(log)?,
-        stop: Arc::try_clone(stop)?,
-        drain: match draining {
-            Some(draining) => Some(Arc::try_clone(&draining.drain)?),
-            None => None,
-        },
-    };
-    if let Some(place) = listener {
-        start_listening(rt, alloc, place, watch.share()?)?;
-    }
-    Ok(Some(watch))
-}
-
-/// Ends the answers to requests of the counters.
-fn end_watch(watch: &Option<Watch>) {
-    if let Some(watch) = watch {
-        watch.metrics.end();
     }
 }
 

@@ -2,19 +2,11 @@
 //! to a log that can't be written.
 
 ghost use Rattle.std.specs.Prelude.{◌≡◌, ◌≤◌, ◌+◌, IfSome, IsSome, ◌↔◌, ◌&&◌, ◌==◌, false, not, true, if◌then◌else◌};
-ghost use Rattle.fp_serve.specs.declared.run.settings.WhenLogFails.TheVariants.{EndRun, LeaveGap};
+ghost use Rattle.fp_runlog.specs.declared.when_log_fails.WhenLogFails.TheVariants.{EndRun, LeaveGap};
 
 use fp_records::Table;
+use fp_runlog::WhenLogFails;
 use fp_tids::LocalIds;
-
-/// The reaction of a run to a log that can't be written.
-#[derive(Clone, Copy, Debug, PartialEq, Eq)]
-pub enum WhenLogFails {
-    /// All links go down, and the run ends.
-    EndRun,
-    /// Calls go on, and writing is tried again each second. Lines that find no place meanwhile are counted in a gap.
-    LeaveGap,
-}
 
 /// The settings of a run: how many links it has, 1 to 8, the number of the first, the tag, how many workers each link
 /// has, 1 to 8, how many entries its dialogues may keep, how many turns its receiving thread serves, the reaction to a

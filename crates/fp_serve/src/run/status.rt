@@ -1,22 +1,13 @@
 //! The status of the links of a run.
 
-use crate::run::Peer;
 use crate::run::commands::Notice;
 use crate::run::report::NOTHING;
 use crossbeam_channel::Sender;
 use fp_book::Status;
+use fp_watch::{LinkStatus, Peer};
 use std::alloc::{AllocError, Global};
 use std::sync::atomic::{AtomicBool, Ordering};
 use std::sync::{Mutex, Wait};
-
-/// The status of a link that was accepted.
-#[derive(Clone, Copy, Debug, PartialEq, Eq)]
-pub struct LinkStatus {
-    /// The peer of the link.
-    pub peer: Peer,
-    /// The status of its book at its last tick, or in the end.
-    pub status: Status,
-}
 
 /// The status of the links of a run, for the thread that follows the commands.
 #[derive(Drop)]

@@ -1,7 +1,7 @@
 //! The request to take all links down, or to end them.
 
-use crate::moment::time_since;
 use crate::run::ServeFault;
+use fp_tally::time_since;
 use std::alloc::{AllocError, Global};
 use std::rt::Clock;
 use std::sync::atomic::{AtomicU64, Ordering};

@@ -3,9 +3,10 @@
 ghost use Rattle.std.specs.Prelude.{◌≡◌};
 ghost use Rattle.std.specs.Io.{ReadsAtMost, WritesAtMost};
 
-use crate::run::{Event, Events, Run};
+use crate::run::{Events, Run};
 use crate::system::System;
 use fp_network::NetworkLink;
+use fp_watch::Event;
 use std::io;
 use std::io::{Read, Write};
 use std::net::{Shutdown, TcpStream};

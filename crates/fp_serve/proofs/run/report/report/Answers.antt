@@ -1,6 +1,6 @@
 use Rattle.std.proofs.Common.{ap, ◌++◌, ◌∙◌, string_bytes}
 use Rattle.fp_replay.specs.Replayed.{report_line}
-use Rattle.fp_serve.proofs.Lines.{more}
+use Rattle.fp_watch.proofs.Lines.{more}
 use Rattle.fp_serve.proofs.run.report.report.Goals as goal
 
 pub loop-link-preserved : goal.loop-link-preserved

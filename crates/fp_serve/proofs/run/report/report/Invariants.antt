@@ -1,7 +1,7 @@
 use Rattle.std.proofs.Common.{◌≡◌, ◌++◌, string_bytes}
 use Rattle.std.proofs.Math.ListN.{drop}
 use Rattle.fp_replay.specs.Replayed.{report_line}
-use Rattle.fp_serve.specs.Report.{lines_by}
+use Rattle.fp_watch.specs.Links.{lines_by}
 use Rattle.fp_serve.proofs.run.report.report.Given as goal
 
 -- with the lines of those links that are left, the text is that of all

@@ -3,7 +3,8 @@ use Rattle.std.proofs.KnownBytes.{Appends-trans}
 use Rattle.std.proofs.Common.{subst, ◌≡◌, length}
 use Rattle.std.proofs.lemmas.Result.{on_ok_weaker}
 use Rattle.fp_replay.specs.Replayed.{report_line}
-use Rattle.fp_serve.specs.Report.{TellsAnswers, lines_by, with_links_below}
+use Rattle.fp_serve.specs.Report.{TellsAnswers, with_links_below}
+use Rattle.fp_watch.specs.Links.{lines_by}
 use Rattle.fp_serve.proofs.run.serving.Server.serve_tagged.Goals as goal
 
 -- the address was told, then what commands give, and then the lines of the links, those below the first one among them
