@@ -6,13 +6,12 @@ ghost use Rattle.scp.specs.Instant.{moment_in};
 
 mod serving;
 
-use crate::network::NetworkWords;
 use crate::tag::Tag;
 use clap::error::ErrorKind;
 use clap::{Arg, ArgAction, Command, Error, value_parser};
 use fp_digits::Moment;
-use fp_serve::{Settings, Wanted};
 use jiff::Timestamp;
+pub use serving::ServeWords;
 use serving::{SERVE, serve_asked, serve_command};
 use std::alloc::{AllocError, Global};
 
@@ -54,26 +53,7 @@ pub enum Asked<'a> {
         contexts: Option<&'a str>,
     },
     /// Links over connections, answered from the records of a file.
-    Serve {
-        /// The path of the file.
-        records: &'a str,
-        /// The text of the address where connections are awaited, not read yet.
-        listen: &'a str,
-        /// The words for a node on a signalling network, if the program is to be one.
-        network: Option<NetworkWords<'a>>,
-        /// How many links there are, 1 to 8, the number of the first, the tag, and how many workers each has, 1 to 8.
-        settings: Settings,
-        /// The path of the log that is written.
-        log: &'a str,
-        /// The text of the address for HTTP requests of the counters, not read yet, if there is one.
-        metrics: Option<&'a str>,
-        /// Whether each called number has counters, too.
-        counts_numbers: bool,
-        /// The events that are written, if any are.
-        events: Option<Wanted>,
-        /// The text of the list of application contexts, not read yet, if there is one.
-        contexts: Option<&'a str>,
-    },
+    Serve(ServeWords<'a>),
     /// The text of the help or the version.
     Help(String),
     /// The text that says why the words are refused.

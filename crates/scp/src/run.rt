@@ -87,7 +87,7 @@ where
                 contexts,
             },
         ) => replay_file(rt, records, log, later.as_slice(), contexts, output, errors),
-        Ok(Asked::Serve { .. }) => Err(RunFault::Serve(ServeFault::NoConnection)),
+        Ok(Asked::Serve(_)) => Err(RunFault::Serve(ServeFault::NoConnection)),
         Ok(Asked::Help(text)) => show(text.as_str(), output),
         Ok(Asked::Refused(text)) => {
             let _ = errors.write_all(text.as_bytes());

@@ -3,7 +3,7 @@
 ghost use Rattle.std.specs.Prelude.{◌≡◌, ◌≤◌, OnOk, ◌&&◌, ◌==◌, not, if◌then◌else◌};
 ghost use Rattle.fp_serve.specs.Report.{TellsLinks};
 
-use crate::command::{Asked, VERSION, asked_by};
+use crate::command::{Asked, ServeWords, VERSION, asked_by};
 use crate::console::Console;
 use crate::fault::RunFault;
 use crate::listening::{listener_at, metrics_listener_at};
@@ -16,7 +16,7 @@ use fp_network::{Drain, NetworkEvent, NetworkFault, NetworkLink, Node, Plan};
 use fp_records::Table;
 use fp_serve::{
     Commands, Event, Events, Links, Metrics, MetricsListener, Operator, ServeFault, Server,
-    Service, Settings, StandingLink, System, Version, Wanted, Watched,
+    Service, StandingLink, System, Version, Wanted, Watched,
 };
 use fp_streams::Counted;
 use sha2::{Digest, Sha256};
@@ -70,49 +70,12 @@ where
     ensures { result ≤ 2 }
 {
     match asked_by(rt.alloc(), words) {
-        Ok(
-            Asked::Serve {
-                records,
-                listen,
-                network,
-                settings,
-                log,
-                metrics,
-                counts_numbers,
-                events,
-                contexts,
-            },
-        ) => {
-            let asked = Run {
-                records,
-                listen,
-                network,
-                settings,
-                log,
-                metrics,
-                counts_numbers,
-                events,
-                contexts,
-            };
+        Ok(Asked::Serve(asked)) => {
             let outcome = serve_file(rt, asked, input, output, errors, event_lines);
             status_of(outcome, errors)
         }
         asked => run_asked(rt, asked, input, output, errors),
     }
-}
-
-/// The request for `serve` in the words, as [`Asked::Serve`] has it.
-#[derive(Clone, Copy)]
-struct Run<'a> {
-    records: &'a str,
-    listen: &'a str,
-    network: Option<NetworkWords<'a>>,
-    settings: Settings,
-    log: &'a str,
-    metrics: Option<&'a str>,
-    counts_numbers: bool,
-    events: Option<Wanted>,
-    contexts: Option<&'a str>,
 }
 
 /// The records, listeners and log of a run, read and opened before its first event.
@@ -127,7 +90,7 @@ struct Prepared {
 }
 
 /// Reads the records of a run, opens its log and its listeners, and empties the log.
-fn prepare<H>(rt: &H, asked: &Run<'_>) -> Result<Prepared, RunFault>
+fn prepare<H>(rt: &H, asked: &ServeWords<'_>) -> Result<Prepared, RunFault>
 where
     H: Files<File = File>
         + AllocGlobal
@@ -159,7 +122,7 @@ where
 /// written, a second at most, or two if 1,024 wait.
 fn serve_file<'x, H, R, W, E, V>(
     rt: &'x H,
-    asked: Run<'x>,
+    asked: ServeWords<'x>,
     input: R,
     output: &mut W,
     errors: &'x mut E,
@@ -190,7 +153,7 @@ where
 /// Serves links, and reports events.
 fn serve_prepared<'x, H, R, W, E>(
     rt: &'x H,
-    asked: Run<'x>,
+    asked: ServeWords<'x>,
     prepared: Prepared,
     input: R,
     output: &mut W,
@@ -328,7 +291,7 @@ fn finish<H: System>(
 }
 
 /// The digest of the records, if an event, a page or a command has it.
-fn digest_of(asked: &Run<'_>, records: &[u8]) -> Option<[u8; 32]> {
+fn digest_of(asked: &ServeWords<'_>, records: &[u8]) -> Option<[u8; 32]> {
     let has_metrics = asked.metrics.is_some() || asked.settings.has_commands;
     if has_metrics || asked.events == Some(Wanted::All) {
         Some(Sha256::digest(records))
@@ -377,7 +340,7 @@ where
 /// numbers and rules its records have.
 fn watched<H: AllocGlobal>(
     rt: &H,
-    asked: &Run<'_>,
+    asked: &ServeWords<'_>,
     digest: Option<[u8; 32]>,
     counts: (u32, u32),
     listener: Option<MetricsListener>,

@@ -18,6 +18,29 @@ const AUTO: &str = "auto";
 /// The end of the text about a refused value.
 const MORE: &str = "\n\nFor more information, try '--help'.\n";
 
+/// A request to serve links over connections, made by the words of a command line.
+#[derive(Clone, Copy, Debug)]
+pub struct ServeWords<'a> {
+    /// The path of the records file.
+    pub records: &'a str,
+    /// The text of the address where connections are awaited, not read yet.
+    pub listen: &'a str,
+    /// The words for a node on a signalling network, if the program is to be one.
+    pub network: Option<NetworkWords<'a>>,
+    /// How many links there are, 1 to 8, the number of the first, the tag, and how many workers each has, 1 to 8.
+    pub settings: Settings,
+    /// The path of the log that is written.
+    pub log: &'a str,
+    /// The text of the address for HTTP requests of the counters, not read yet, if there is one.
+    pub metrics: Option<&'a str>,
+    /// Whether each called number has counters, too.
+    pub counts_numbers: bool,
+    /// The events that are written, if any are.
+    pub events: Option<Wanted>,
+    /// The text of the list of application contexts, not read yet, if there is one.
+    pub contexts: Option<&'a str>,
+}
+
 /// The request in the words of `serve`.
 pub(super) fn serve_asked<'a>(
     alloc: Global,
@@ -48,7 +71,7 @@ pub(super) fn serve_asked<'a>(
     } else {
         settings
     };
-    Ok(Asked::Serve {
+    Ok(Asked::Serve(ServeWords {
         records,
         listen: chosen.get_str("listen").unwrap_or(""),
         network,
@@ -62,7 +85,7 @@ pub(super) fn serve_asked<'a>(
         counts_numbers: chosen.get_flag("count-numbers"),
         events: wanted_events(chosen.get_flag("events"), has_log_gaps),
         contexts,
-    })
+    }))
 }
 
 /// The description of an address.
