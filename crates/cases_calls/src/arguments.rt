@@ -18,7 +18,9 @@
 
 use crate::elements::{element_of, new_writer, push_written};
 use crate::numbers::{are_writable, digits_of};
-use crate::texts::{push_digits, push_name, push_value};
+use crate::texts::{push_digits, push_or};
+use crate::values::kept;
+use cases::{Answer, number_of};
 use fp_digits::{Cause, Number};
 use fp_inap::{
     Event, EventReport, InitialDp, Leg, Operation, OperationError, read_event_report,
@@ -26,164 +28,185 @@ use fp_inap::{
     write_request_report,
 };
 use std::alloc::Global;
-use std::fmt::Write;
 
 /// Writes a number: its nature of address, a colon and its digits.
-fn push_number(out: &mut String, number: Option<Number>) -> anyhow::Result<()> {
+fn push_number(out: &mut Answer, number: Option<Number>) {
     let Some(number) = number else {
-        return Ok(out.push_str("-")?);
+        return out.text("-");
     };
-    write!(out, "{}:", number.nature.code())?;
+    out.value(number.nature.code());
+    out.text(":");
     push_digits(out, number.digits.as_slice())
 }
 
 /// Writes the contents of the argument of an InitialDP.
-fn push_initial_dp(out: &mut String, read: &InitialDp) -> anyhow::Result<()> {
-    out.push_str("key ")?;
-    push_value(out, read.key, "-")?;
-    out.push_str(", called ")?;
-    push_number(out, read.called)?;
-    out.push_str(", calling ")?;
-    push_number(out, read.calling)?;
-    out.push_str(", category ")?;
-    push_value(out, read.category, "-")?;
-    out.push_str(", event ")?;
-    push_name(out, read.event, "-")
+fn push_initial_dp(out: &mut Answer, read: &InitialDp) {
+    out.text("key ");
+    push_or(out, read.key.map(u64::from), "-");
+    out.text(", called ");
+    push_number(out, read.called);
+    out.text(", calling ");
+    push_number(out, read.calling);
+    out.text(", category ");
+    push_or(out, read.category.map(u64::from), "-");
+    out.text(", event ");
+    match read.event {
+        Some(event) => out.shown(&event),
+        None => out.text("-"),
+    }
 }
 
 /// Writes the contents of the argument of an InitialDP, or `mistyped`.
-fn initial_dp(alloc: Global, text: &str, out: &mut String) -> anyhow::Result<()> {
-    let element = element_of(alloc, text)?;
+fn initial_dp(alloc: Global, text: &str, out: &mut Answer) {
+    let Some(element) = element_of(alloc, text, out) else {
+        return;
+    };
     match read_initial_dp(&element) {
         Ok(read) => push_initial_dp(out, &read),
-        Err(_) => Ok(out.push_str("mistyped")?),
+        Err(_) => out.text("mistyped"),
     }
 }
 
 /// Writes a leg: its side and its octet.
-fn push_leg(out: &mut String, leg: Option<Leg>) -> anyhow::Result<()> {
+fn push_leg(out: &mut Answer, leg: Option<Leg>) {
     match leg {
-        Some(Leg::Sending(leg)) => write!(out, "sending {leg}")?,
-        Some(Leg::Receiving(leg)) => write!(out, "receiving {leg}")?,
-        None => out.push_str("-")?,
+        Some(Leg::Sending(leg)) => {
+            out.labeled("sending ", leg);
+        }
+        Some(Leg::Receiving(leg)) => {
+            out.labeled("receiving ", leg);
+        }
+        None => out.text("-"),
     }
-    Ok(())
 }
 
 /// Writes the contents of the argument of an EventReportBCSM.
-fn push_event_report(out: &mut String, read: &EventReport) -> anyhow::Result<()> {
-    write!(out, "event {:?}, leg ", read.event)?;
-    push_leg(out, read.leg)?;
-    out.push_str(if read.notification {
-        ", notification"
-    } else {
-        ", request"
-    })?;
-    Ok(())
+fn push_event_report(out: &mut Answer, read: &EventReport) {
+    out.text("event ");
+    out.shown(&read.event);
+    out.text(", leg ");
+    push_leg(out, read.leg);
+    out.either(read.notification, ", notification", ", request");
 }
 
 /// Writes the contents of the argument of an EventReportBCSM, or `mistyped`.
-fn event_report(alloc: Global, text: &str, out: &mut String) -> anyhow::Result<()> {
-    let element = element_of(alloc, text)?;
+fn event_report(alloc: Global, text: &str, out: &mut Answer) {
+    let Some(element) = element_of(alloc, text, out) else {
+        return;
+    };
     match read_event_report(&element) {
         Ok(read) => push_event_report(out, &read),
-        Err(_) => Ok(out.push_str("mistyped")?),
+        Err(_) => out.text("mistyped"),
     }
 }
 
 /// The octets of the argument of a Connect.
-fn connect(alloc: Global, text: &str, out: &mut String) -> anyhow::Result<()> {
-    let digits = digits_of(alloc, text)?;
-    let digits = digits.as_slice();
-    anyhow::ensure!(are_writable(digits), "not 1 to 15 decimal digits");
-    let mut argument = new_writer(alloc)?;
-    write_connect(digits, &mut argument)?;
-    push_written(out, argument)
+fn connect(alloc: Global, text: &str, out: &mut Answer) {
+    let digits = digits_of(alloc, text, out);
+    push_connect(alloc, digits.as_slice(), out);
 }
 
-/// The cause of this name.
-fn cause_of(name: &str) -> anyhow::Result<Cause> {
+/// Writes the octets of the argument of a Connect to these digits.
+fn push_connect(alloc: Global, digits: &[u8], out: &mut Answer) {
+    if !are_writable(digits) {
+        return out.fail("not 1 to 15 decimal digits");
+    }
+    if let Some(mut argument) = new_writer(alloc, out) {
+        out.note(write_connect(digits, &mut argument));
+        push_written(out, argument);
+    }
+}
+
+/// The cause of this name; another cause, and a fault, for another text.
+fn cause_of(name: &str, out: &mut Answer) -> Cause {
     match name {
-        "no-route-to-destination" => Ok(Cause::NoRouteToDestination),
-        "user-busy" => Ok(Cause::UserBusy),
-        "no-answer-from-user" => Ok(Cause::NoAnswerFromUser),
-        "call-rejected" => Ok(Cause::CallRejected),
-        _ => anyhow::bail!("no cause"),
+        "no-route-to-destination" => Cause::NoRouteToDestination,
+        "user-busy" => Cause::UserBusy,
+        "no-answer-from-user" => Cause::NoAnswerFromUser,
+        "call-rejected" => Cause::CallRejected,
+        _ => {
+            out.fail("no cause");
+            Cause::CallRejected
+        }
     }
 }
 
 /// The octets of the argument of a ReleaseCall.
-fn release(alloc: Global, name: &str, out: &mut String) -> anyhow::Result<()> {
-    let cause = cause_of(name)?;
-    let mut argument = new_writer(alloc)?;
-    write_release(cause, &mut argument)?;
-    push_written(out, argument)
+fn release(alloc: Global, name: &str, out: &mut Answer) {
+    let cause = cause_of(name, out);
+    if let Some(mut argument) = new_writer(alloc, out) {
+        out.note(write_release(cause, &mut argument));
+        push_written(out, argument);
+    }
 }
 
 /// The octets of the argument of a RequestReportBCSMEvent.
-fn request_report(alloc: Global, out: &mut String) -> anyhow::Result<()> {
-    let mut argument = new_writer(alloc)?;
-    write_request_report(&mut argument)?;
-    push_written(out, argument)
+fn request_report(alloc: Global, out: &mut Answer) {
+    if let Some(mut argument) = new_writer(alloc, out) {
+        out.note(write_request_report(&mut argument));
+        push_written(out, argument);
+    }
 }
 
 /// The octets of the Invoke of Continue.
-fn continuing(alloc: Global, text: &str, out: &mut String) -> anyhow::Result<()> {
-    let identifier: i8 = text.parse()?;
-    let mut invoke = new_writer(alloc)?;
-    write_continue(identifier, &mut invoke)?;
-    push_written(out, invoke)
+fn continuing(alloc: Global, text: &str, out: &mut Answer) {
+    let identifier: i8 = number_of(text, out);
+    if let Some(mut invoke) = new_writer(alloc, out) {
+        out.note(write_continue(identifier, &mut invoke));
+        push_written(out, invoke);
+    }
 }
 
 /// The octets of the Invoke of ActivityTest.
-fn activity_test(alloc: Global, text: &str, out: &mut String) -> anyhow::Result<()> {
-    let identifier: i8 = text.parse()?;
-    let mut invoke = new_writer(alloc)?;
-    write_activity_test(identifier, &mut invoke)?;
-    push_written(out, invoke)
+fn activity_test(alloc: Global, text: &str, out: &mut Answer) {
+    let identifier: i8 = number_of(text, out);
+    if let Some(mut invoke) = new_writer(alloc, out) {
+        out.note(write_activity_test(identifier, &mut invoke));
+        push_written(out, invoke);
+    }
 }
 
 /// The operation of a code, with its code and its class.
-fn operation(text: &str, out: &mut String) -> anyhow::Result<()> {
-    let Some(operation) = Operation::from_code(text.parse()?) else {
-        return Ok(out.push_str("-")?);
+fn operation(text: &str, out: &mut Answer) {
+    let Some(operation) = Operation::from_code(number_of(text, out)) else {
+        return out.text("-");
     };
-    let code = operation.code();
-    let class = operation.class();
-    Ok(write!(out, "{operation:?}, code {code}, {class:?}")?)
+    out.shown(&operation);
+    out.labeled(", code ", operation.code());
+    out.text(", ");
+    out.shown(&operation.class());
 }
 
 /// The event of a code, and that event's code.
-fn event(text: &str, out: &mut String) -> anyhow::Result<()> {
-    let event = Event::from_code(text.parse()?);
-    Ok(write!(out, "{event:?}, code {}", event.code())?)
+fn event(text: &str, out: &mut Answer) {
+    let event = Event::from_code(number_of(text, out));
+    out.shown(&event);
+    out.labeled(", code ", event.code());
 }
 
-/// The error of this name.
-fn error_of(name: &str) -> anyhow::Result<OperationError> {
+/// The error of this name; another error, and a fault, for another text.
+fn error_of(name: &str, out: &mut Answer) -> OperationError {
     match name {
-        "missingCustomerRecord" => Ok(OperationError::MissingCustomerRecord),
-        "missingParameter" => Ok(OperationError::MissingParameter),
-        "unexpectedComponentSequence" => Ok(OperationError::UnexpectedComponentSequence),
-        "unexpectedDataValue" => Ok(OperationError::UnexpectedDataValue),
-        _ => anyhow::bail!("no error"),
+        "missingCustomerRecord" => OperationError::MissingCustomerRecord,
+        "missingParameter" => OperationError::MissingParameter,
+        "unexpectedComponentSequence" => OperationError::UnexpectedComponentSequence,
+        "unexpectedDataValue" => OperationError::UnexpectedDataValue,
+        _ => {
+            out.fail("no error");
+            OperationError::MissingParameter
+        }
     }
 }
 
 /// The code of the error of this name.
-fn error(name: &str, out: &mut String) -> anyhow::Result<()> {
-    let error = error_of(name)?;
-    Ok(write!(out, "code {}", error.code())?)
+fn error(name: &str, out: &mut Answer) {
+    let error = error_of(name, out);
+    out.labeled("code ", error.code());
 }
 
 /// Writes the result of a case of this kind. `false` if this module has no such cases.
-pub(crate) fn answer(
-    alloc: Global,
-    kind: &str,
-    rest: &str,
-    out: &mut String,
-) -> anyhow::Result<bool> {
-    let written = match kind {
+pub(crate) fn answer(alloc: Global, kind: &str, rest: &str, out: &mut Answer) -> bool {
+    match kind {
         "initial-dp" => initial_dp(alloc, rest, out),
         "event-report" => event_report(alloc, rest, out),
         "connect" => connect(alloc, rest, out),
@@ -194,8 +217,7 @@ pub(crate) fn answer(
         "operation" => operation(rest, out),
         "event" => event(rest, out),
         "error" => error(rest, out),
-        _ => return Ok(false),
-    };
-    written?;
-    Ok(true)
+        _ => return false,
+    }
+    true
 }

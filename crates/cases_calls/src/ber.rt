@@ -30,20 +30,15 @@ mod spellings;
 mod tags;
 mod trees;
 
+use cases::Answer;
+pub(crate) use spellings::push_other;
 use std::alloc::Global;
 
 /// Writes the result of a case of this kind. `false` if these modules have no such cases.
-pub(crate) fn answer(
-    alloc: Global,
-    kind: &str,
-    rest: &str,
-    out: &mut String,
-) -> anyhow::Result<bool> {
-    Ok(
-        spellings::answer(alloc, kind, rest, out)?
-            || faults::answer(alloc, kind, rest, out)?
-            || contents::answer(alloc, kind, rest, out)?
-            || made::answer(alloc, kind, rest, out)?
-            || integers::answer(alloc, kind, rest, out)?,
-    )
+pub(crate) fn answer(alloc: Global, kind: &str, rest: &str, out: &mut Answer) -> bool {
+    spellings::answer(alloc, kind, rest, out)
+        || faults::answer(alloc, kind, rest, out)
+        || contents::answer(alloc, kind, rest, out)
+        || made::answer(alloc, kind, rest, out)
+        || integers::answer(alloc, kind, rest, out)
 }

@@ -26,12 +26,11 @@
 //! | `pass COUNT` | nothing: this number of identifiers is given |
 //! | `link ID` | the link of an identifier |
 
-ghost use Rattle.std.specs.Prelude.{◌≡◌, ◌<◌, ◌≤◌, IfOk};
+ghost use Rattle.std.specs.Prelude.{◌≡◌, ◌<◌, ◌≤◌, IfSome};
 ghost use Rattle.fp_tids.specs.Identifiers.{AreSerials, all_serials};
 
-use crate::values::local_of;
-use anyhow::bail;
-use cases::first_word;
+use crate::values::{after_noon, kept, local_of};
+use cases::{Answer, first_word, number_of};
 use fp_digits::Moment;
 use fp_tids::{LocalIds, link_of, serials_are_distinct};
 use fp_timers::{Deadlines, Timer};
@@ -41,133 +40,127 @@ use std::alloc::Global;
 const FIRST: u32 = 0x2000_0001;
 
 /// Writes the result of a case of this kind. `false` if this module has no such cases.
-pub(crate) fn answer(
-    alloc: Global,
-    kind: &str,
-    rest: &str,
-    out: &mut String,
-) -> anyhow::Result<bool> {
-    let written = match kind {
+pub(crate) fn answer(alloc: Global, kind: &str, rest: &str, out: &mut Answer) -> bool {
+    match kind {
         "deadlines" => of_deadlines(alloc, rest, out),
         "local-ids" => of_local_ids(alloc, rest, out),
         "turns" => of_turns(alloc, rest, out),
-        _ => return Ok(false),
-    };
-    written?;
-    Ok(true)
+        _ => return false,
+    }
+    true
 }
 
 /// Performs the operations of a text on new deadlines.
-fn of_deadlines(alloc: Global, text: &str, out: &mut String) -> anyhow::Result<()> {
-    let mut deadlines = Deadlines::new(alloc)?;
-    change_all(&mut deadlines, text, out)
+fn of_deadlines(alloc: Global, text: &str, out: &mut Answer) {
+    if let Some(mut deadlines) = kept(Deadlines::new(alloc), out) {
+        change_all(&mut deadlines, text, out);
+    }
 }
 
 /// Performs operations on deadlines, in turn.
-fn change_all(deadlines: &mut Deadlines, text: &str, out: &mut String) -> anyhow::Result<()> {
+fn change_all(deadlines: &mut Deadlines, text: &str, out: &mut Answer) {
     for part in text.split(", ") {
-        change(deadlines, part, out)?;
+        change(deadlines, part, out);
     }
-    Ok(())
 }
 
 /// Performs an operation on deadlines, and writes its result, if it has one.
-fn change(deadlines: &mut Deadlines, text: &str, out: &mut String) -> anyhow::Result<()> {
+fn change(deadlines: &mut Deadlines, text: &str, out: &mut Answer) {
     let (word, rest) = first_word(text);
     match word {
-        "set" => set_of(deadlines, rest),
-        "clear" => clear(deadlines, rest),
+        "set" => set_of(deadlines, rest, out),
+        "clear" => deadlines.clear(local_of(rest, out)),
         "due" => push_due(deadlines, rest, out),
         "first" => push_first(deadlines, rest, out),
         "after" => push_after(deadlines, rest, out),
         "count" => push_count(deadlines, out),
-        "fill" => fill(deadlines, rest),
+        "fill" => fill(deadlines, rest, out),
         "drain" => drain(deadlines, rest, out),
-        _ => bail!("no such case"),
+        _ => out.fail("no such case"),
     }
 }
 
 /// Gives the identifier in a text the deadline in that text.
-fn set_of(deadlines: &mut Deadlines, text: &str) -> anyhow::Result<()> {
+fn set_of(deadlines: &mut Deadlines, text: &str, out: &mut Answer) {
     let (local, deadline) = first_word(text);
-    let local = local_of(local)?;
-    set(deadlines, local, deadline.parse()?)
-}
-
-/// Clears the deadline of an identifier.
-fn clear(deadlines: &mut Deadlines, local: &str) -> anyhow::Result<()> {
-    deadlines.clear(local_of(local)?);
-    Ok(())
+    let local = local_of(local, out);
+    let deadline: u64 = number_of(deadline, out);
+    set(deadlines, local, deadline, out);
 }
 
 /// Writes the identifier that is due at a moment.
-fn push_due(deadlines: &Deadlines, moment: &str, out: &mut String) -> anyhow::Result<()> {
-    let moment = moment_of(moment)?;
+fn push_due(deadlines: &Deadlines, moment: &str, out: &mut Answer) {
+    let moment = moment_of(moment, out);
     push_local(deadlines.due(moment), out)
 }
 
 /// Writes the first deadline, if it is due at a moment.
-fn push_first(deadlines: &Deadlines, moment: &str, out: &mut String) -> anyhow::Result<()> {
-    let moment = moment_of(moment)?;
+fn push_first(deadlines: &Deadlines, moment: &str, out: &mut Answer) {
+    let moment = moment_of(moment, out);
     push_timer(deadlines.due_after(None, moment), out)
 }
 
 /// Writes the first deadline after another one, if it is due at a moment.
-fn push_after(deadlines: &Deadlines, text: &str, out: &mut String) -> anyhow::Result<()> {
+fn push_after(deadlines: &Deadlines, text: &str, out: &mut Answer) {
     let (local, rest) = first_word(text);
     let (deadline, moment) = first_word(rest);
     let last = Timer {
-        local: local_of(local)?,
-        deadline: deadline.parse()?,
+        local: local_of(local, out),
+        deadline: number_of(deadline, out),
     };
-    let moment = moment_of(moment)?;
+    let moment = moment_of(moment, out);
     push_timer(deadlines.due_after(Some(last), moment), out)
 }
 
 /// Writes an identifier and its deadline, or `none`.
-fn push_timer(timer: Option<Timer>, out: &mut String) -> anyhow::Result<()> {
+fn push_timer(timer: Option<Timer>, out: &mut Answer) {
     let Some(timer) = timer else {
         return push_local(None, out);
     };
-    push_local(Some(timer.local), out)?;
-    write!(out, " {}", timer.deadline)?;
-    Ok(())
+    push_local(Some(timer.local), out);
+    out.labeled(" ", timer.deadline);
 }
 
 /// Writes how many identifiers have a deadline.
-fn push_count(deadlines: &Deadlines, out: &mut String) -> anyhow::Result<()> {
-    push_blank(out)?;
-    write!(out, "{}", deadlines.len())?;
-    Ok(())
+fn push_count(deadlines: &Deadlines, out: &mut Answer) {
+    push_blank(out);
+    out.value(deadlines.len());
 }
 
-/// The moment this number of milliseconds after 1970-01-01T00:00:00Z.
-fn moment_of(text: &str) -> anyhow::Result<Moment> {
-    match Moment::new(text.parse()?) {
-        Some(moment) => Ok(moment),
-        None => bail!("no moment"),
+/// The moment this number of milliseconds after 1970-01-01T00:00:00Z; another one, and a fault, for another text.
+fn moment_of(text: &str, out: &mut Answer) -> Moment {
+    match Moment::new(number_of(text, out)) {
+        Some(moment) => moment,
+        None => {
+            out.fail("no moment");
+            after_noon(0)
+        }
     }
 }
 
 /// Gives an identifier a deadline, if there is room for one more.
-fn set(deadlines: &mut Deadlines, local: u32, deadline: u64) -> anyhow::Result<()> {
-    if deadlines.len() >= Deadlines::MOST {
-        bail!("no room");
+fn set(deadlines: &mut Deadlines, local: u32, deadline: u64, out: &mut Answer) {
+    if deadlines.len() < Deadlines::MOST {
+        deadlines.set(local, deadline);
+    } else {
+        out.fail("no room");
     }
-    deadlines.set(local, deadline);
-    Ok(())
 }
 
 /// Gives this number of identifiers a deadline each, rising or falling.
-fn fill(deadlines: &mut Deadlines, text: &str) -> anyhow::Result<()> {
+fn fill(deadlines: &mut Deadlines, text: &str, out: &mut Answer) {
     let (count, order) = first_word(text);
-    let count: u16 = count.parse()?;
+    let count: u16 = number_of(count, out);
     let rises = order == "rising";
     for index in 0..count {
         let deadline = if rises { index + 1 } else { count - index };
-        set(deadlines, FIRST + u32::from(index), u64::from(deadline))?;
+        set(
+            deadlines,
+            FIRST + u32::from(index),
+            u64::from(deadline),
+            out,
+        );
     }
-    Ok(())
 }
 
 /// Clears the deadline of the identifier that is due, and returns the identifier.
@@ -179,8 +172,8 @@ fn taken(deadlines: &mut Deadlines, moment: Moment) -> Option<u32> {
 
 /// Clears the deadlines that are due, and writes how many there were, the first and the last identifier, and their
 /// order.
-fn drain(deadlines: &mut Deadlines, moment: &str, out: &mut String) -> anyhow::Result<()> {
-    let moment = moment_of(moment)?;
+fn drain(deadlines: &mut Deadlines, moment: &str, out: &mut Answer) {
+    let moment = moment_of(moment, out);
     match taken(deadlines, moment) {
         Some(first) => push_drained(drain_all(deadlines, moment, first), out),
         None => push_local(None, out),
@@ -227,15 +220,15 @@ fn with_next(drained: Drained, local: u32) -> Drained {
 }
 
 /// Writes the cleared identifiers: their number, the first, the last, and their order.
-fn push_drained(drained: Drained, out: &mut String) -> anyhow::Result<()> {
-    push_blank(out)?;
-    write!(
-        out,
-        "{} from {:08X} to {:08X}, ",
-        drained.count, drained.first, drained.last
-    )?;
-    out.push_str(order_text(drained.rises, drained.falls))?;
-    Ok(())
+fn push_drained(drained: Drained, out: &mut Answer) {
+    push_blank(out);
+    out.value(drained.count);
+    out.text(" from ");
+    out.identifier(drained.first);
+    out.text(" to ");
+    out.identifier(drained.last);
+    out.text(", ");
+    out.text(order_text(drained.rises, drained.falls));
 }
 
 /// The word for the order of identifiers: whether each is one more, or one less, than the one before.
@@ -249,60 +242,72 @@ fn order_text(rises: bool, falls: bool) -> &'static str {
     }
 }
 
-/// The link of this number.
-fn link_in(text: &str) -> anyhow::Result<u8>
-    ensures { IfOk result (λ link. link < LocalIds.LINKS) }
+/// The link of this number; 0, and a fault, for another text.
+fn link_in(text: &str, out: &mut Answer) -> u8
+    ensures { result < LocalIds.LINKS }
 {
-    let link: u8 = text.parse()?;
-    if link >= LocalIds::LINKS {
-        bail!("no link");
+    let link: u8 = number_of(text, out);
+    if link < LocalIds::LINKS {
+        return link;
     }
-    Ok(link)
+    out.fail("no link");
+    0
 }
 
-/// The tag of this number.
-fn tag_in(text: &str) -> anyhow::Result<u16>
-    ensures { IfOk result (λ tag. tag ≤ LocalIds.LAST_TAG) }
+/// The tag of this number; 0, and a fault, for another text.
+fn tag_in(text: &str, out: &mut Answer) -> u16
+    ensures { result ≤ LocalIds.LAST_TAG }
 {
-    let tag: u16 = text.parse()?;
-    if tag > LocalIds::LAST_TAG {
-        bail!("no tag");
+    let tag: u16 = number_of(text, out);
+    if tag <= LocalIds::LAST_TAG {
+        return tag;
     }
-    Ok(tag)
+    out.fail("no tag");
+    0
 }
 
-/// The identifiers of a link and a tag, `LINK/TAG`, or of a link without a tag. None of them was given yet.
-fn ids_of(alloc: Global, text: &str) -> anyhow::Result<LocalIds>
-    ensures { IfOk result (λ ids. ids.queue ≡ all_serials) }
+/// The identifiers of a link and a tag, `LINK/TAG`, or of a link without a tag. None of them was given yet. `None`, and
+/// a fault, if memory ran out.
+fn ids_of(alloc: Global, text: &str, out: &mut Answer) -> Option<LocalIds>
+    ensures { IfSome result (λ ids. ids.queue ≡ all_serials) }
 {
     let (link, tag) = match text.split_once('/') {
         Some(parts) => parts,
         None => (text, "0"),
     };
-    let link = link_in(link)?;
-    let tag = tag_in(tag)?;
-    Ok(LocalIds::with_tag(alloc, link, tag)?)
+    let link = link_in(link, out);
+    let tag = tag_in(tag, out);
+    match LocalIds::with_tag(alloc, link, tag) {
+        Ok(ids) => Some(ids),
+        Err(_) => {
+            out.run_out();
+            None
+        }
+    }
 }
 
 /// Performs the operations of a text on the identifiers of a link. None was given yet.
-fn of_local_ids(alloc: Global, text: &str, out: &mut String) -> anyhow::Result<()> {
+fn of_local_ids(alloc: Global, text: &str, out: &mut Answer) {
     let (link, rest) = first_word(text);
-    let mut ids = ids_of(alloc, link)?;
-    use_all(&mut ids, rest, out)
+    if let Some(mut ids) = ids_of(alloc, link, out) {
+        use_all(&mut ids, rest, out);
+    }
 }
 
 /// Gives identifiers of a link, each after the one before it was ended, and writes the last of them and the next.
-fn of_turns(alloc: Global, text: &str, out: &mut String) -> anyhow::Result<()> {
+fn of_turns(alloc: Global, text: &str, out: &mut Answer) {
     let (link, count) = first_word(text);
-    let mut ids = ids_of(alloc, link)?;
-    let count: u32 = count.parse()?;
+    let Some(mut ids) = ids_of(alloc, link, out) else {
+        return;
+    };
+    let count: u32 = number_of(count, out);
     serials_are_distinct();
     let mut last = None;
     for _ in 0..count {
         last = turn(&mut ids);
     }
-    push_local(last, out)?;
-    push_local(ids.next(), out)
+    push_local(last, out);
+    push_local(ids.next(), out);
 }
 
 /// Gives the next identifier and ends it.
@@ -317,55 +322,48 @@ fn turn(ids: &mut LocalIds) -> Option<u32>
 }
 
 /// Performs operations on identifiers, in turn.
-fn use_all(ids: &mut LocalIds, text: &str, out: &mut String) -> anyhow::Result<()> {
+fn use_all(ids: &mut LocalIds, text: &str, out: &mut Answer) {
     for part in text.split(", ") {
-        use_ids(ids, part, out)?;
+        use_ids(ids, part, out);
     }
-    Ok(())
 }
 
 /// Performs an operation on identifiers, and writes its result.
-fn use_ids(ids: &mut LocalIds, text: &str, out: &mut String) -> anyhow::Result<()> {
+fn use_ids(ids: &mut LocalIds, text: &str, out: &mut Answer) {
     let (word, rest) = first_word(text);
     match word {
         "give" => push_local(ids.give(), out),
-        "pass" => pass(ids, rest),
+        "pass" => pass(ids, rest, out),
         "link" => push_link(rest, out),
-        _ => bail!("no such case"),
+        _ => out.fail("no such case"),
     }
 }
 
 /// Gives this number of identifiers.
-fn pass(ids: &mut LocalIds, count: &str) -> anyhow::Result<()> {
-    let count: u32 = count.parse()?;
+fn pass(ids: &mut LocalIds, count: &str, out: &mut Answer) {
+    let count: u32 = number_of(count, out);
     for _ in 0..count {
         ids.give();
     }
-    Ok(())
 }
 
 /// Writes the link of an identifier.
-fn push_link(local: &str, out: &mut String) -> anyhow::Result<()> {
-    let link = link_of(local_of(local)?);
-    push_blank(out)?;
-    write!(out, "{link}")?;
-    Ok(())
+fn push_link(local: &str, out: &mut Answer) {
+    let link = link_of(local_of(local, out));
+    push_blank(out);
+    out.value(link);
 }
 
 /// Writes an identifier, in eight hexadecimal digits, or `none`.
-fn push_local(local: Option<u32>, out: &mut String) -> anyhow::Result<()> {
-    push_blank(out)?;
+fn push_local(local: Option<u32>, out: &mut Answer) {
+    push_blank(out);
     match local {
-        Some(local) => write!(out, "{local:08X}")?,
-        None => out.push_str("none")?,
+        Some(local) => out.identifier(local),
+        None => out.text("none"),
     }
-    Ok(())
 }
 
 /// Writes a blank, if there is text before it.
-fn push_blank(out: &mut String) -> anyhow::Result<()> {
-    if !out.is_empty() {
-        out.push(' ')?;
-    }
-    Ok(())
+fn push_blank(out: &mut Answer) {
+    out.separator(" ");
 }

@@ -19,9 +19,8 @@ mod request;
 
 use crate::dialogues::request::request_of;
 use crate::rows::Rows;
-use crate::values::{NOON, abort_cause_of, after_noon, frame_of, local_of, tid_of};
-use anyhow::bail;
-use cases::{first_word, push_octets};
+use crate::values::{NOON, abort_cause_of, after_noon, found, frame_of, kept, local_of, tid_of};
+use cases::{Answer, first_word, number_of};
 use fp_apdu::Name;
 use fp_digits::Moment;
 use fp_entry::{Arrival, Entry, EntryKind, Prepared};
@@ -60,68 +59,65 @@ impl Scene {
         alloc: Global,
         kind: &str,
         rest: &str,
-        out: &mut String,
-    ) -> anyhow::Result<bool> {
-        let written = match kind {
+        out: &mut Answer,
+    ) -> bool {
+        match kind {
             "dialogue-table" => self.rows.begin(alloc, rest, out),
             "dialogue-row" => self.rows.push(alloc, rest, out),
             "at" => self.at(alloc, rest, out),
             "reply" => reply(alloc, rest, out),
             "abort-frame" => framed_abort(alloc, rest, out),
-            _ => return Ok(false),
-        };
-        written?;
-        Ok(true)
+            _ => return false,
+        }
+        true
     }
 
     /// Handles an event of the dialogue: a message or the clock.
-    fn at(&mut self, alloc: Global, text: &str, out: &mut String) -> anyhow::Result<()> {
+    fn at(&mut self, alloc: Global, text: &str, out: &mut Answer) {
         let (milliseconds, event) = first_word(text);
-        let moment = after_noon(milliseconds.parse()?);
-        let served = match event {
+        let moment = after_noon(number_of(milliseconds, out));
+        match event {
             "clock" => self.tick(alloc, moment, out),
             octets => self.receive(alloc, moment, octets, out),
-        };
-        served?;
+        }
         push_rest(&self.core, out)
     }
 
     /// Handles the clock at a moment.
-    fn tick(&mut self, alloc: Global, moment: Moment, out: &mut String) -> anyhow::Result<()> {
+    fn tick(&mut self, alloc: Global, moment: Moment, out: &mut Answer) {
         let kind = EntryKind::Clock;
         self.serve(alloc, &Entry { moment, kind }, out)
     }
 
     /// Receives a message of these octets.
-    fn receive(
-        &mut self,
+    fn receive(&mut self, alloc: Global, moment: Moment, octets: &str, out: &mut Answer) {
+        if let Some(prepared) = self.prepared(alloc, moment, octets, out) {
+            self.serve_prepared(alloc, &prepared, out);
+        }
+    }
+
+    /// Prepares a message of these octets. `None`, and a fault, if there are no records, or a frame can't hold it.
+    fn prepared(
+        &self,
         alloc: Global,
         moment: Moment,
         octets: &str,
-        out: &mut String,
-    ) -> anyhow::Result<()> {
-        let Some(name) = Name::new(&ACCEPTED) else {
-            bail!("no name");
-        };
-        let table = self.rows.table()?;
-        let frame = frame_of(alloc, octets)?;
-        let prepared = Prepared::read(alloc, table, &[name], frame, moment);
-        self.serve_prepared(alloc, &prepared, out)
+        out: &mut Answer,
+    ) -> Option<Prepared> {
+        let name = found(Name::new(&ACCEPTED), "no name", out)?;
+        let table = self.rows.table(out)?;
+        let frame = frame_of(alloc, octets, out)?;
+        Some(Prepared::read(alloc, table, &[name], frame, moment))
     }
 
     /// Serves the entries of a message. A Begin starts the dialogue.
-    fn serve_prepared(
-        &mut self,
-        alloc: Global,
-        prepared: &Prepared,
-        out: &mut String,
-    ) -> anyhow::Result<()> {
+    fn serve_prepared(&mut self, alloc: Global, prepared: &Prepared, out: &mut Answer) {
         match prepared {
             Prepared::Message { arrival, incoming } => {
                 self.begin(arrival);
                 self.serve_all(alloc, incoming.entries.as_slice(), out)
             }
-            _ => bail!("no message"),
+            _ => out.fail("no message"),
         }
     }
 
@@ -134,71 +130,66 @@ impl Scene {
     }
 
     /// Serves entries in turn, and writes the frames that are sent for them.
-    fn serve_all(
-        &mut self,
-        alloc: Global,
-        entries: &[Entry],
-        out: &mut String,
-    ) -> anyhow::Result<()> {
+    fn serve_all(&mut self, alloc: Global, entries: &[Entry], out: &mut Answer) {
         for entry in entries {
-            self.serve(alloc, entry, out)?;
+            self.serve(alloc, entry, out);
         }
-        Ok(())
     }
 
     /// Serves an entry, and writes the frame that is sent for it, after a blank if there is text before it.
-    fn serve(&mut self, alloc: Global, entry: &Entry, out: &mut String) -> anyhow::Result<()> {
-        let (core, request) = step(alloc, &self.core, entry)?;
-        self.core = core;
-        let Some(request) = request else {
-            return Ok(());
-        };
-        if !out.is_empty() {
-            out.push(' ')?;
+    fn serve(&mut self, alloc: Global, entry: &Entry, out: &mut Answer) {
+        match step(alloc, &self.core, entry) {
+            Ok((core, request)) => {
+                self.core = core;
+                self.answer_with(alloc, &request, out);
+            }
+            Err(_) => out.run_out(),
         }
-        push_frame(alloc, &request, LOCAL, &self.peer, out)
+    }
+
+    /// Writes the frame of a request, if there is one, after a blank if there is text before it.
+    fn answer_with(&self, alloc: Global, request: &Option<Request>, out: &mut Answer) {
+        if let Some(request) = request {
+            out.separator(" ");
+            push_frame(alloc, request, LOCAL, &self.peer, out);
+        }
     }
 }
 
 /// Writes `none` if no frame was sent, and then `over`, or when the clock next has an effect.
-fn push_rest(core: &Core, out: &mut String) -> anyhow::Result<()> {
+fn push_rest(core: &Core, out: &mut Answer) {
     if out.is_empty() {
-        out.push_str("none")?;
+        out.text("none");
     }
     if core.is_over() {
-        out.push_str(", over")?;
+        out.text(", over");
     } else {
-        write!(out, ", due {}", core.next_due().saturating_sub(NOON))?;
+        out.labeled(", due ", core.next_due().saturating_sub(NOON));
     }
-    Ok(())
 }
 
 /// Writes the frame of a request.
-fn push_frame(
-    alloc: Global,
-    request: &Request,
-    local: u32,
-    peer: &Tid,
-    out: &mut String,
-) -> anyhow::Result<()> {
-    let octets = bytes_of(alloc, request, local, peer)?;
-    push_octets(out, octets.as_slice())
+fn push_frame(alloc: Global, request: &Request, local: u32, peer: &Tid, out: &mut Answer) {
+    if let Some(octets) = kept(bytes_of(alloc, request, local, peer), out) {
+        out.octets(octets.as_slice());
+    }
 }
 
 /// Writes the frame of a request that a text spells.
-fn reply(alloc: Global, text: &str, out: &mut String) -> anyhow::Result<()> {
+fn reply(alloc: Global, text: &str, out: &mut Answer) {
     let (local, rest) = first_word(text);
     let (peer, request) = first_word(rest);
-    let local = local_of(local)?;
-    let peer = tid_of(alloc, peer)?;
-    let request = request_of(alloc, request)?;
-    push_frame(alloc, &request, local, &peer, out)
+    let local = local_of(local, out);
+    let peer = tid_of(alloc, peer, out);
+    if let Some(request) = request_of(alloc, request, out) {
+        push_frame(alloc, &request, local, &peer, out);
+    }
 }
 
 /// Writes the frame of an Abort of the provider.
-fn framed_abort(alloc: Global, text: &str, out: &mut String) -> anyhow::Result<()> {
+fn framed_abort(alloc: Global, text: &str, out: &mut Answer) {
     let (peer, cause) = first_word(text);
-    let peer = tid_of(alloc, peer)?;
-    let cause = abort_cause_of(cause)?;
-    push_octets(out, abort_frame(peer, cause).as_slice())
+    let peer = tid_of(alloc, peer, out);
+    let cause = abort_cause_of(cause, out);
+    out.octets(abort_frame(peer, cause).as_slice())
 }

@@ -20,11 +20,12 @@ mod shown;
 use crate::entries::lists::{append, distinct, list};
 use crate::entries::shown::{push_called, push_prepared};
 use crate::values::{after_noon, frame_of, name_of};
-use cases::first_word;
+use cases::{Answer, first_word, number_of};
+use fp_apdu::Name;
 use fp_digits::Moment;
 use fp_entry::{Lookup, Prepared};
 use fp_records::Table;
-pub(crate) use shown::push_name;
+pub(crate) use shown::push_named;
 use std::alloc::Global;
 
 /// The records of all cases, for the service key 100.
@@ -50,14 +51,8 @@ impl Scene {
     }
 
     /// Writes the result of a case of this kind. `false` if this module has no such cases.
-    pub(crate) fn answer(
-        &self,
-        alloc: Global,
-        kind: &str,
-        rest: &str,
-        out: &mut String,
-    ) -> anyhow::Result<bool> {
-        let written = match kind {
+    pub(crate) fn answer(&self, alloc: Global, kind: &str, rest: &str, out: &mut Answer) -> bool {
+        match kind {
             "prepare" => prepare(alloc, &self.table, rest, out),
             "look-ups" => look_ups(alloc, &self.table, rest, out),
             "in-continue" => in_continue(alloc, &self.table, rest, out),
@@ -65,11 +60,23 @@ impl Scene {
             "list" => list(alloc, &self.table, rest, out),
             "append" => append(alloc, &self.table, rest, out),
             "distinct" => distinct(alloc, &self.table, rest, out),
-            _ => return Ok(false),
-        };
-        written?;
-        Ok(true)
+            _ => return false,
+        }
+        true
     }
+}
+
+/// Prepares a message, with these application contexts accepted. `None`, and a fault, if a frame can't hold it.
+fn prepared_with(
+    alloc: Global,
+    table: &Table,
+    moment: Moment,
+    contexts: &[Name],
+    octets: &str,
+    out: &mut Answer,
+) -> Option<Prepared> {
+    let frame = frame_of(alloc, octets, out)?;
+    Some(Prepared::read(alloc, table, contexts, frame, moment))
 }
 
 /// Prepares a message, with this application context accepted, or none.
@@ -79,51 +86,64 @@ fn prepared(
     moment: Moment,
     context: &str,
     octets: &str,
-) -> anyhow::Result<Prepared> {
+    out: &mut Answer,
+) -> Option<Prepared> {
     if context == "-" {
-        let frame = frame_of(alloc, octets)?;
-        return Ok(Prepared::read(alloc, table, &[], frame, moment));
+        return prepared_with(alloc, table, moment, &[], octets, out);
     }
-    let name = name_of(alloc, context)?;
-    let frame = frame_of(alloc, octets)?;
-    Ok(Prepared::read(alloc, table, &[name], frame, moment))
+    let name = name_of(alloc, context, out)?;
+    prepared_with(alloc, table, moment, &[name], octets, out)
 }
 
 /// Writes the prepared message.
-fn prepare(alloc: Global, table: &Table, text: &str, out: &mut String) -> anyhow::Result<()> {
+fn prepare(alloc: Global, table: &Table, text: &str, out: &mut Answer) {
     let (milliseconds, rest) = first_word(text);
     let (context, octets) = first_word(rest);
-    let moment = after_noon(milliseconds.parse()?);
-    let prepared = prepared(alloc, table, moment, context, octets)?;
-    push_prepared(table, &prepared, out)
+    let moment = after_noon(number_of(milliseconds, out));
+    if let Some(prepared) = prepared(alloc, table, moment, context, octets, out) {
+        push_prepared(table, &prepared, out);
+    }
 }
 
 /// Writes the record that each of several Begins finds with one look-up: those to numbers with these last octets.
-fn look_ups(alloc: Global, table: &Table, octets: &str, out: &mut String) -> anyhow::Result<()> {
+fn look_ups(alloc: Global, table: &Table, octets: &str, out: &mut Answer) {
     let mut lookup = Lookup::new(alloc, table);
-    out.push_str("found")?;
+    out.text("found");
     for last in octets.split_whitespace() {
-        let message = format!(in alloc;
-            "622D48040000002A6C25A123020101020100301B8001648207831008103254{last}83078313032143650785010A9C0103"
-        )?;
-        let frame = frame_of(alloc, message.as_str())?;
-        let prepared = Prepared::read_with(alloc, &mut lookup, &[], frame, after_noon(0));
-        push_called(table, &prepared, out)?;
+        look_up(alloc, table, &mut lookup, last, out);
     }
-    Ok(())
+}
+
+/// Writes the record that a Begin finds: that to the number with this last octet.
+fn look_up(alloc: Global, table: &Table, lookup: &mut Lookup<'_>, last: &str, out: &mut Answer) {
+    let mut message = Answer::new(alloc);
+    message.text("622D48040000002A6C25A123020101020100301B8001648207831008103254");
+    message.text(last);
+    message.text("83078313032143650785010A9C0103");
+    if let Some(frame) = frame_of(alloc, message.as_str(), out) {
+        let prepared = Prepared::read_with(alloc, lookup, &[], frame, after_noon(0));
+        push_called(table, &prepared, out);
+    }
 }
 
 /// Writes the prepared Continue with only this component.
-fn in_continue(alloc: Global, table: &Table, octets: &str, out: &mut String) -> anyhow::Result<()> {
-    let message = format!(in alloc; "658048040000002A4904000000016C80{octets}00000000")?;
-    let prepared = prepared(alloc, table, after_noon(0), "-", message.as_str())?;
-    push_prepared(table, &prepared, out)
+fn in_continue(alloc: Global, table: &Table, octets: &str, out: &mut Answer) {
+    let mut message = Answer::new(alloc);
+    message.text("658048040000002A4904000000016C80");
+    message.text(octets);
+    message.text("00000000");
+    let prepared = prepared(alloc, table, after_noon(0), "-", message.as_str(), out);
+    if let Some(prepared) = prepared {
+        push_prepared(table, &prepared, out);
+    }
 }
 
 /// Writes the prepared message for a lost frame.
-fn lost(alloc: Global, table: &Table, text: &str, out: &mut String) -> anyhow::Result<()> {
+fn lost(alloc: Global, table: &Table, text: &str, out: &mut Answer) {
     let (milliseconds, octets) = first_word(text);
-    let moment = after_noon(milliseconds.parse()?);
-    let lost = Prepared::lost(frame_of(alloc, octets)?, moment);
-    push_prepared(table, &lost, out)
+    let moment = after_noon(number_of(milliseconds, out));
+    if let Some(frame) = frame_of(alloc, octets, out) {
+        let lost = Prepared::lost(frame, moment);
+        push_prepared(table, &lost, out);
+    }
 }

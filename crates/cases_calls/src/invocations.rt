@@ -22,9 +22,8 @@
 //! identifier; and the earliest moment at which one is due.
 
 use crate::kinds::is_last;
-use crate::values::{NOON, after_noon};
-use anyhow::bail;
-use cases::first_word;
+use crate::values::{NOON, after_noon, kept};
+use cases::{Answer, first_word, number_of};
 use fp_digits::Moment;
 use fp_ism::{Invocations, Outcome};
 use fp_q773::OperationClass;
@@ -46,22 +45,16 @@ impl Scene {
     }
 
     /// Writes the result of a case of this kind. `false` if this module has no such cases.
-    pub(crate) fn answer(
-        &mut self,
-        kind: &str,
-        rest: &str,
-        out: &mut String,
-    ) -> anyhow::Result<bool> {
-        let written = match kind {
+    pub(crate) fn answer(&mut self, kind: &str, rest: &str, out: &mut Answer) -> bool {
+        match kind {
             "ism" => self.ism(rest, out),
-            _ => return Ok(false),
-        };
-        written?;
-        Ok(true)
+            _ => return false,
+        }
+        true
     }
 
     /// Performs the operation of a text, and writes its result.
-    fn ism(&mut self, text: &str, out: &mut String) -> anyhow::Result<()> {
+    fn ism(&mut self, text: &str, out: &mut Answer) {
         match text {
             "keep" => self.keep(out),
             "kept" => push_with("kept", &self.kept, out),
@@ -70,20 +63,20 @@ impl Scene {
     }
 
     /// Keeps a copy of the list.
-    fn keep(&mut self, out: &mut String) -> anyhow::Result<()> {
+    fn keep(&mut self, out: &mut Answer) {
         self.kept = self.invocations;
         push_with("kept", &self.kept, out)
     }
 
     /// Performs the operation of a text on the list, and writes its result.
-    fn change(&mut self, text: &str, out: &mut String) -> anyhow::Result<()> {
-        change(&mut self.invocations, text, out)?;
+    fn change(&mut self, text: &str, out: &mut Answer) {
+        change(&mut self.invocations, text, out);
         push_with("", &self.invocations, out)
     }
 }
 
 /// Performs the operation of a text on a list, and writes its result.
-fn change(list: &mut Invocations, text: &str, out: &mut String) -> anyhow::Result<()> {
+fn change(list: &mut Invocations, text: &str, out: &mut Answer) {
     let (word, text) = first_word(text);
     match word {
         "new" => anew(list, out),
@@ -93,92 +86,81 @@ fn change(list: &mut Invocations, text: &str, out: &mut String) -> anyhow::Resul
         "reject" => reject(list, text, out),
         "due" => due(list, text, out),
         "class" => class(list, text, out),
-        "testing" => push_answer(list.testing(), out),
+        "testing" => out.either(list.testing(), "yes", "no"),
         "test-due" => test_due(list, text, out),
         "fail" => fail(list, text, out),
-        _ => bail!("no such case"),
+        _ => out.fail("no such case"),
     }
 }
 
 /// Begins a new list.
-fn anew(list: &mut Invocations, out: &mut String) -> anyhow::Result<()> {
+fn anew(list: &mut Invocations, out: &mut Answer) {
     *list = Invocations::new();
-    out.push_str("new")?;
-    Ok(())
+    out.text("new");
 }
 
 /// Starts an invocation, and writes its identifier, or why it can't start.
-fn start(list: &mut Invocations, text: &str, out: &mut String) -> anyhow::Result<()> {
+fn start(list: &mut Invocations, text: &str, out: &mut Answer) {
     let (class, moment) = first_word(text);
-    let class = class_of(class)?;
-    match list.start(class, moment_of(moment)?) {
-        Ok(identifier) => write!(out, "{identifier}")?,
-        Err(full) => write!(out, "{full}")?,
+    let class = class_of(class, out);
+    match list.start(class, moment_of(moment, out)) {
+        Ok(identifier) => out.value(identifier),
+        Err(full) => out.value(full),
     }
-    Ok(())
 }
 
 /// Writes the outcome of a ReturnResult.
-fn result(list: &mut Invocations, text: &str, out: &mut String) -> anyhow::Result<()> {
+fn result(list: &mut Invocations, text: &str, out: &mut Answer) {
     let (identifier, last) = first_word(text);
-    let outcome = list.result(identifier.parse()?, is_last(last)?);
-    push_outcome(outcome, out)
+    let identifier: i8 = number_of(identifier, out);
+    let outcome = list.result(identifier, is_last(last, out));
+    out.shown(&outcome);
 }
 
 /// Writes the outcome of a ReturnError.
-fn error(list: &mut Invocations, identifier: &str, out: &mut String) -> anyhow::Result<()> {
-    push_outcome(list.error(identifier.parse()?), out)
+fn error(list: &mut Invocations, identifier: &str, out: &mut Answer) {
+    let outcome = list.error(number_of(identifier, out));
+    out.shown(&outcome);
 }
 
 /// Writes the outcome of a Reject.
-fn reject(list: &mut Invocations, identifier: &str, out: &mut String) -> anyhow::Result<()> {
-    push_outcome(list.reject(identifier.parse()?), out)
-}
-
-/// Writes the outcome of a component.
-fn push_outcome(outcome: Outcome, out: &mut String) -> anyhow::Result<()> {
-    write!(out, "{outcome:?}")?;
-    Ok(())
+fn reject(list: &mut Invocations, identifier: &str, out: &mut Answer) {
+    let outcome = list.reject(number_of(identifier, out));
+    out.shown(&outcome);
 }
 
 /// Ends the invocations that are due, and writes how many there were.
-fn due(list: &mut Invocations, moment: &str, out: &mut String) -> anyhow::Result<()> {
-    let count = list.due(moment_of(moment)?);
-    write!(out, "{count}")?;
-    Ok(())
+fn due(list: &mut Invocations, moment: &str, out: &mut Answer) {
+    let count = list.due(moment_of(moment, out));
+    out.value(count);
 }
 
 /// Writes the class of the active invocation with an identifier, or `-`.
-fn class(list: &Invocations, identifier: &str, out: &mut String) -> anyhow::Result<()> {
-    match list.class_of(identifier.parse()?) {
-        Some(class) => write!(out, "{class:?}")?,
-        None => out.push_str("-")?,
+fn class(list: &Invocations, identifier: &str, out: &mut Answer) {
+    match list.class_of(number_of(identifier, out)) {
+        Some(class) => out.shown(&class),
+        None => out.text("-"),
     }
-    Ok(())
 }
 
 /// Writes whether a test is due.
-fn test_due(list: &Invocations, moment: &str, out: &mut String) -> anyhow::Result<()> {
-    push_answer(list.is_test_due(moment_of(moment)?), out)
-}
-
-/// Writes `yes` or `no`.
-fn push_answer(is: bool, out: &mut String) -> anyhow::Result<()> {
-    out.push_str(if is { "yes" } else { "no" })?;
-    Ok(())
+fn test_due(list: &Invocations, moment: &str, out: &mut Answer) {
+    let is_due = list.is_test_due(moment_of(moment, out));
+    out.either(is_due, "yes", "no");
 }
 
 /// Starts this number of invocations in turn, and fails each one. Writes their identifiers, which rise by one.
-fn fail(list: &mut Invocations, text: &str, out: &mut String) -> anyhow::Result<()> {
+fn fail(list: &mut Invocations, text: &str, out: &mut Answer) {
     let (count, rest) = first_word(text);
     let (class, moment) = first_word(rest);
-    let count: u8 = count.parse()?;
-    let class = class_of(class)?;
-    let moment = moment_of(moment)?;
-    let first = list.next();
-    let last = last_failed(list, count, class, moment)?;
-    write!(out, "{first} to {last}, each Failure")?;
-    Ok(())
+    let count: u8 = number_of(count, out);
+    let class = class_of(class, out);
+    let moment = moment_of(moment, out);
+    out.value(list.next());
+    out.text(" to ");
+    let last = last_failed(list, count, class, moment, out);
+    out.value(last);
+    out.text(", each Failure");
 }
 
 /// Starts and fails this number of invocations. Returns the identifier of the last one.
@@ -187,78 +169,90 @@ fn last_failed(
     count: u8,
     class: OperationClass,
     moment: Moment,
-) -> anyhow::Result<i32> {
+    out: &mut Answer,
+) -> i32 {
     let mut expected = i32::from(list.next());
     for _ in 0..count {
-        if i32::from(failed(list, class, moment)?) != expected {
-            bail!("not one more than the one before");
+        if i32::from(failed(list, class, moment, out)) != expected {
+            out.fail("not one more than the one before");
         }
         expected = expected.saturating_add(1);
     }
-    Ok(expected.saturating_sub(1))
+    expected.saturating_sub(1)
 }
 
 /// Starts the next invocation and fails it by a ReturnError. Returns its identifier.
-fn failed(list: &mut Invocations, class: OperationClass, moment: Moment) -> anyhow::Result<i8> {
+fn failed(list: &mut Invocations, class: OperationClass, moment: Moment, out: &mut Answer) -> i8 {
     let next = list.next();
-    let identifier = list.start(class, moment)?;
+    let identifier = kept(list.start(class, moment), out).unwrap_or(0);
     if identifier != next {
-        bail!("not the next one started");
+        out.fail("not the next one started");
     }
     if list.error(identifier) != Outcome::Failure {
-        bail!("the error is no failure");
+        out.fail("the error is no failure");
     }
-    Ok(identifier)
+    identifier
 }
 
-/// The moment of a text `NOON+N`.
-fn moment_of(text: &str) -> anyhow::Result<Moment> {
+/// The moment of a text `NOON+N`; noon, and a fault, for another text.
+fn moment_of(text: &str, out: &mut Answer) -> Moment {
     match text.strip_prefix("NOON+") {
-        Some(later) => Ok(after_noon(later.parse()?)),
-        None => bail!("no moment"),
+        Some(later) => after_noon(number_of(later, out)),
+        None => {
+            out.fail("no moment");
+            after_noon(0)
+        }
     }
 }
 
-/// The class of a text, `class-1` to `class-4`.
-fn class_of(text: &str) -> anyhow::Result<OperationClass> {
+/// The class of a text, `class-1` to `class-4`; another class, and a fault, for another text.
+fn class_of(text: &str, out: &mut Answer) -> OperationClass {
     match text {
-        "class-1" => Ok(OperationClass::Class1),
-        "class-2" => Ok(OperationClass::Class2),
-        "class-3" => Ok(OperationClass::Class3),
-        "class-4" => Ok(OperationClass::Class4),
-        _ => bail!("no class"),
+        "class-1" => OperationClass::Class1,
+        "class-2" => OperationClass::Class2,
+        "class-3" => OperationClass::Class3,
+        "class-4" => OperationClass::Class4,
+        _ => {
+            out.fail("no class");
+            OperationClass::Class1
+        }
     }
 }
 
 /// Writes a result, and the list after it.
-fn push_with(given: &str, list: &Invocations, out: &mut String) -> anyhow::Result<()> {
-    write!(out, "{given}; active")?;
-    push_active(list, out)?;
-    write!(out, "; next {}; due ", list.next())?;
-    push_due(list.next_due(), out)
+fn push_with(given: &str, list: &Invocations, out: &mut Answer) {
+    out.text(given);
+    out.text("; active");
+    push_active(list, out);
+    out.labeled("; next ", list.next());
+    out.text("; due ");
+    push_due(list.next_due(), out);
 }
 
 /// Writes when the first invocation is due.
-fn push_due(due: Option<u64>, out: &mut String) -> anyhow::Result<()> {
+fn push_due(due: Option<u64>, out: &mut Answer) {
     match due {
-        None => out.push_str("none")?,
-        Some(due) if due >= NOON => write!(out, "NOON+{}", due - NOON)?,
-        Some(due) => write!(out, "{due}, before noon")?,
+        None => out.text("none"),
+        Some(due) if due >= NOON => {
+            out.labeled("NOON+", due - NOON);
+        }
+        Some(due) => {
+            out.value(due);
+            out.text(", before noon");
+        }
     }
-    Ok(())
 }
 
 /// Writes the identifiers of the invocations that are active, each after a blank, or ` none`.
-pub(crate) fn push_active(list: &Invocations, out: &mut String) -> anyhow::Result<()> {
+pub(crate) fn push_active(list: &Invocations, out: &mut Answer) {
     let mut is_none = true;
     for identifier in i8::MIN..=i8::MAX {
         if list.active(identifier) {
-            write!(out, " {identifier}")?;
+            out.labeled(" ", identifier);
             is_none = false;
         }
     }
     if is_none {
-        out.push_str(" none")?;
+        out.text(" none");
     }
-    Ok(())
 }

@@ -16,9 +16,8 @@
 //! After an Invoke there may be, in any order, `linked ID`, and a calling number: `from DIGITS`, a national one, or
 //! `calling NATURE:DIGITS`. `none` means no identifier or no calling number, and `?` no identifier.
 
-use crate::values::{name_of, national_number_of, number_of};
-use anyhow::bail;
-use cases::first_word;
+use crate::values::{kept, name_of, national_number_of, number_with};
+use cases::{Answer, first_word, number_of};
 use fp_apdu::Opening;
 use fp_digits::{NatureOfAddress, Number};
 use fp_entry::{EntryKind, Found, SharedRecord};
@@ -27,37 +26,48 @@ use fp_q773::{GeneralProblem, InvokeProblem};
 use fp_records::Table;
 use std::alloc::Global;
 
-/// The kind of entry that a text spells.
-pub(crate) fn kind_of(alloc: Global, table: &Table, text: &str) -> anyhow::Result<EntryKind> {
+/// The kind of entry that a text spells. `None`, and a fault, if it spells none.
+pub(crate) fn kind_of(
+    alloc: Global,
+    table: &Table,
+    text: &str,
+    out: &mut Answer,
+) -> Option<EntryKind> {
     let (word, rest) = first_word(text);
     match word {
-        "opened" => opened_of(alloc, rest),
-        "initial-dp" => initial_dp_of(table, rest),
-        "event" => event_of(rest),
-        "invoke" | "unknown-invoke" => unknown_invoke_of(rest),
-        "result" => result_of(rest),
-        "error" => error_of(rest),
-        "reject" => reject_of(rest),
-        "faulty" => faulty_of(rest),
-        "peer-end" => Ok(EntryKind::PeerEnd),
-        "peer-abort" => Ok(EntryKind::PeerAbort),
-        "clock" => Ok(EntryKind::Clock),
-        _ => bail!("no entry"),
+        "opened" => opened_of(alloc, rest, out),
+        "initial-dp" => initial_dp_of(table, rest, out),
+        "event" => Some(event_of(rest, out)),
+        "invoke" | "unknown-invoke" => Some(unknown_invoke_of(rest, out)),
+        "result" => Some(result_of(rest, out)),
+        "error" => Some(error_of(rest, out)),
+        "reject" => Some(reject_of(rest, out)),
+        "faulty" => Some(faulty_of(rest, out)),
+        "peer-end" => Some(EntryKind::PeerEnd),
+        "peer-abort" => Some(EntryKind::PeerAbort),
+        "clock" => Some(EntryKind::Clock),
+        _ => {
+            out.fail("no entry");
+            None
+        }
     }
 }
 
 /// A Begin.
-fn opened_of(alloc: Global, text: &str) -> anyhow::Result<EntryKind> {
+fn opened_of(alloc: Global, text: &str, out: &mut Answer) -> Option<EntryKind> {
     let (word, name) = first_word(text);
     if word == "none" {
-        return Ok(EntryKind::Opened(Opening::None));
+        return Some(EntryKind::Opened(Opening::None));
     }
-    let name = name_of(alloc, name)?;
+    let name = name_of(alloc, name, out)?;
     match word {
-        "known" => Ok(EntryKind::Opened(Opening::Known(name))),
-        "unknown" => Ok(EntryKind::Opened(Opening::Unknown(name))),
-        "bad-version" => Ok(EntryKind::Opened(Opening::BadVersion(name))),
-        _ => bail!("no opening"),
+        "known" => Some(EntryKind::Opened(Opening::Known(name))),
+        "unknown" => Some(EntryKind::Opened(Opening::Unknown(name))),
+        "bad-version" => Some(EntryKind::Opened(Opening::BadVersion(name))),
+        _ => {
+            out.fail("no opening");
+            None
+        }
     }
 }
 
@@ -78,159 +88,172 @@ fn name_in<'a>(text: &'a str, key: &str) -> &'a str {
 }
 
 /// An identifier, or `None` for `none` and `?`.
-pub(crate) fn identifier_of(text: &str) -> anyhow::Result<Option<i8>> {
+pub(crate) fn identifier_of(text: &str, out: &mut Answer) -> Option<i8> {
     if text == "none" || text == "?" {
-        return Ok(None);
+        return None;
     }
-    Ok(Some(text.parse()?))
+    Some(number_of(text, out))
 }
 
 /// The linked identifier of an Invoke.
-fn linked_in(text: &str) -> anyhow::Result<Option<i8>> {
+fn linked_in(text: &str, out: &mut Answer) -> Option<i8> {
     match word_after(text, " linked ") {
-        Some(word) => identifier_of(word),
-        None => Ok(None),
+        Some(word) => identifier_of(word, out),
+        None => None,
     }
 }
 
 /// The calling number of an InitialDP.
-fn calling_in(text: &str) -> anyhow::Result<Option<Number>> {
+fn calling_in(text: &str, out: &mut Answer) -> Option<Number> {
     if let Some(digits) = word_after(text, " from ") {
-        return Ok(Some(national_number_of(digits)?));
+        return Some(national_number_of(digits, out));
     }
     match word_after(text, " calling ") {
-        Some(number) => calling_of(number),
-        None => Ok(None),
+        Some(number) => calling_of(number, out),
+        None => None,
     }
 }
 
 /// A nature of address, a colon and digits, or `none`.
-fn calling_of(text: &str) -> anyhow::Result<Option<Number>> {
+fn calling_of(text: &str, out: &mut Answer) -> Option<Number> {
     let Some((nature, digits)) = text.split_once(':') else {
-        return Ok(None);
+        return None;
     };
-    let nature: u8 = nature.parse()?;
-    if nature >= 128 {
-        bail!("no nature of address");
+    let nature: u8 = number_of(nature, out);
+    if nature < 128 {
+        return Some(number_with(NatureOfAddress::new(nature), digits, out));
     }
-    Ok(Some(number_of(NatureOfAddress::new(nature), digits)?))
+    out.fail("no nature of address");
+    None
+}
+
+/// The identifier of an Invoke, which is the first word of its text.
+fn invoke_identifier_in(text: &str, out: &mut Answer) -> i8 {
+    number_of(first_word(text).0, out)
 }
 
 /// An InitialDP.
-fn initial_dp_of(table: &Table, text: &str) -> anyhow::Result<EntryKind> {
-    let identifier = first_word(text).0.parse()?;
-    let linked = linked_in(text)?;
-    let calling = calling_in(text)?;
-    Ok(EntryKind::InitialDp {
+fn initial_dp_of(table: &Table, text: &str, out: &mut Answer) -> Option<EntryKind> {
+    let identifier = invoke_identifier_in(text, out);
+    let linked = linked_in(text, out);
+    let calling = calling_in(text, out);
+    let found = found_in(table, text, out)?;
+    Some(EntryKind::InitialDp {
         identifier,
         linked,
         calling,
-        found: found_in(table, text)?,
+        found,
     })
 }
 
 /// The table's answer to the called number of an InitialDP.
-fn found_in(table: &Table, text: &str) -> anyhow::Result<Found> {
+fn found_in(table: &Table, text: &str, out: &mut Answer) -> Option<Found> {
     if text.contains(" missing") {
-        return Ok(Found::Missing);
+        return Some(Found::Missing);
     }
     if text.contains(" wrong-key") {
-        return Ok(Found::WrongKey);
+        return Some(Found::WrongKey);
     }
     if text.contains(" no-record") {
-        return Ok(Found::NoRecord);
+        return Some(Found::NoRecord);
     }
-    record_of(table, name_in(text, " record "))
+    record_of(table, name_in(text, " record "), out)
 }
 
 /// The record of a called number.
-fn record_of(table: &Table, called: &str) -> anyhow::Result<Found> {
-    let called = national_number_of(called)?;
+fn record_of(table: &Table, called: &str, out: &mut Answer) -> Option<Found> {
+    let called = national_number_of(called, out);
     match table.find(&called) {
-        Some(record) => Ok(Found::Record(SharedRecord::new(record)?)),
-        None => bail!("no record"),
+        Some(record) => Some(Found::Record(kept(SharedRecord::new(record), out)?)),
+        None => {
+            out.fail("no record");
+            None
+        }
     }
 }
 
 /// An event.
-fn event_of(text: &str) -> anyhow::Result<EntryKind> {
-    let identifier = first_word(text).0.parse()?;
-    let linked = linked_in(text)?;
+fn event_of(text: &str, out: &mut Answer) -> EntryKind {
+    let identifier = invoke_identifier_in(text, out);
+    let linked = linked_in(text, out);
     let notification = text.contains(" notification");
     if notification == text.contains(" request") {
-        bail!("neither notification nor request");
+        out.fail("neither notification nor request");
     }
-    Ok(EntryKind::Event {
+    EntryKind::Event {
         identifier,
         linked,
-        event: Event::from_code(code_of(name_in(text, " code "))?),
+        event: Event::from_code(code_of(name_in(text, " code "), out)),
         notification,
-    })
+    }
 }
 
 /// Another Invoke.
-fn unknown_invoke_of(text: &str) -> anyhow::Result<EntryKind> {
-    let identifier = first_word(text).0.parse()?;
-    let linked = linked_in(text)?;
-    let code = code_of(name_in(text, " problem "))?;
-    Ok(EntryKind::UnknownInvoke {
+fn unknown_invoke_of(text: &str, out: &mut Answer) -> EntryKind {
+    let identifier = invoke_identifier_in(text, out);
+    let linked = linked_in(text, out);
+    let code = code_of(name_in(text, " problem "), out);
+    EntryKind::UnknownInvoke {
         identifier,
         linked,
         problem: InvokeProblem::from_code(code),
-    })
+    }
 }
 
 /// The code of an event or a problem, by its name or its digits.
-fn code_of(name: &str) -> anyhow::Result<u8> {
+fn code_of(name: &str, out: &mut Answer) -> u8 {
     match name {
-        "unrecognized-component" => Ok(0),
-        "mistyped-component" | "unrecognized-operation" => Ok(1),
-        "mistyped-parameter" => Ok(2),
-        "routeSelectFailure" => Ok(4),
-        "oCalledPartyBusy" => Ok(5),
-        "oNoAnswer" => Ok(6),
-        "oAnswer" => Ok(7),
-        "oDisconnect" => Ok(9),
-        "oAbandon" => Ok(10),
-        _ => Ok(name.parse()?),
+        "unrecognized-component" => 0,
+        "mistyped-component" | "unrecognized-operation" => 1,
+        "mistyped-parameter" => 2,
+        "routeSelectFailure" => 4,
+        "oCalledPartyBusy" => 5,
+        "oNoAnswer" => 6,
+        "oAnswer" => 7,
+        "oDisconnect" => 9,
+        "oAbandon" => 10,
+        _ => number_of(name, out),
     }
 }
 
 /// A ReturnResult.
-fn result_of(text: &str) -> anyhow::Result<EntryKind> {
+fn result_of(text: &str, out: &mut Answer) -> EntryKind {
     let (identifier, last) = first_word(text);
-    let identifier = identifier.parse()?;
-    let last = is_last(last)?;
-    Ok(EntryKind::Result { identifier, last })
+    let identifier: i8 = number_of(identifier, out);
+    let last = is_last(last, out);
+    EntryKind::Result { identifier, last }
 }
 
 /// Whether a result is the last one.
-pub(crate) fn is_last(word: &str) -> anyhow::Result<bool> {
+pub(crate) fn is_last(word: &str, out: &mut Answer) -> bool {
     match word {
-        "last" => Ok(true),
-        "not-last" => Ok(false),
-        _ => bail!("neither last nor not-last"),
+        "last" => true,
+        "not-last" => false,
+        _ => {
+            out.fail("neither last nor not-last");
+            false
+        }
     }
 }
 
 /// A ReturnError.
-fn error_of(text: &str) -> anyhow::Result<EntryKind> {
-    let identifier = text.parse()?;
-    Ok(EntryKind::Error { identifier })
+fn error_of(text: &str, out: &mut Answer) -> EntryKind {
+    let identifier: i8 = number_of(text, out);
+    EntryKind::Error { identifier }
 }
 
 /// A Reject.
-fn reject_of(text: &str) -> anyhow::Result<EntryKind> {
-    let identifier = identifier_of(text)?;
-    Ok(EntryKind::Reject { identifier })
+fn reject_of(text: &str, out: &mut Answer) -> EntryKind {
+    let identifier = identifier_of(text, out);
+    EntryKind::Reject { identifier }
 }
 
 /// A faulty component.
-fn faulty_of(text: &str) -> anyhow::Result<EntryKind> {
-    let identifier = identifier_of(first_word(text).0)?;
-    let code = code_of(name_in(text, " problem "))?;
-    Ok(EntryKind::Faulty {
+fn faulty_of(text: &str, out: &mut Answer) -> EntryKind {
+    let identifier = identifier_of(first_word(text).0, out);
+    let code = code_of(name_in(text, " problem "), out);
+    EntryKind::Faulty {
         identifier,
         problem: GeneralProblem::from_code(code),
-    })
+    }
 }

@@ -50,7 +50,7 @@ mod texts;
 mod unit_data;
 mod values;
 
-use cases::{Answers, first_word};
+use cases::{Answer, Answers, first_word};
 use std::alloc::Global;
 
 /// Answers the cases, and keeps the state that cases leave for later ones.
@@ -65,44 +65,39 @@ struct Scene {
 }
 
 /// Writes the result of a case without a scene. `false` if no module has cases of this kind.
-fn plain(alloc: Global, kind: &str, rest: &str, out: &mut String) -> anyhow::Result<bool> {
-    Ok(
-        ber::answer(alloc, kind, rest, out)?
-            || numbers::answer(alloc, kind, rest, out)?
-            || frames::answer(alloc, kind, rest, out)?
-            || unit_data::answer(alloc, kind, rest, out)?
-            || connections::answer(alloc, kind, rest, out)?
-            || network::answer(alloc, kind, rest, out)?
-            || nodes::answer(alloc, kind, rest, out)?
-            || messages::answer(alloc, kind, rest, out)?
-            || portions::answer(alloc, kind, rest, out)?
-            || streams::answer(alloc, kind, rest, out)?
-            || arguments::answer(alloc, kind, rest, out)?
-            || deadlines::answer(alloc, kind, rest, out)?,
-    )
+fn plain(alloc: Global, kind: &str, rest: &str, out: &mut Answer) -> bool {
+    ber::answer(alloc, kind, rest, out)
+        || numbers::answer(alloc, kind, rest, out)
+        || frames::answer(alloc, kind, rest, out)
+        || unit_data::answer(alloc, kind, rest, out)
+        || connections::answer(alloc, kind, rest, out)
+        || network::answer(alloc, kind, rest, out)
+        || nodes::answer(alloc, kind, rest, out)
+        || messages::answer(alloc, kind, rest, out)
+        || portions::answer(alloc, kind, rest, out)
+        || streams::answer(alloc, kind, rest, out)
+        || arguments::answer(alloc, kind, rest, out)
+        || deadlines::answer(alloc, kind, rest, out)
 }
 
 impl Scene {
     /// Writes the result of a case with a scene. `false` if no module has cases of this kind.
-    fn of_scene(&mut self, kind: &str, rest: &str, out: &mut String) -> anyhow::Result<bool> {
+    fn of_scene(&mut self, kind: &str, rest: &str, out: &mut Answer) -> bool {
         let alloc = self.alloc;
-        Ok(
-            self.records.answer(alloc, kind, rest, out)?
-                || self.invocations.answer(kind, rest, out)?
-                || self.entries.answer(alloc, kind, rest, out)?
-                || self.steps.answer(alloc, kind, rest, out)?
-                || self.dialogues.answer(alloc, kind, rest, out)?,
-        )
+        self.records.answer(alloc, kind, rest, out)
+            || self.invocations.answer(kind, rest, out)
+            || self.entries.answer(alloc, kind, rest, out)
+            || self.steps.answer(alloc, kind, rest, out)
+            || self.dialogues.answer(alloc, kind, rest, out)
     }
 }
 
 impl Answers for Scene {
-    fn answer(&mut self, input: &str, out: &mut String) -> anyhow::Result<()> {
+    fn answer(&mut self, input: &str, out: &mut Answer) {
         let (kind, rest) = first_word(input);
-        if !plain(self.alloc, kind, rest, out)? && !self.of_scene(kind, rest, out)? {
-            anyhow::bail!("no such case");
+        if !plain(self.alloc, kind, rest, out) && !self.of_scene(kind, rest, out) {
+            out.fail("no such case");
         }
-        Ok(())
     }
 }
 

@@ -11,160 +11,170 @@
 //! | `received:K:HEX` | a message of SCCP is received on connection K |
 //! | `send:HEX` | the link sends a message |
 
-use anyhow::bail;
-use bytes::Bytes;
-use cases::{first_word, octets_of, push_octets};
+use crate::values::{found, frame_of, kept};
+use cases::{Answer, first_word, number_of, octets_of};
 use fp_adaptor::{Adaptor, Counted, HandedOn, Outcome, Sending, Setting};
-use fp_frames::Frame;
 use fp_sccp::Address;
 use std::alloc::Global;
-use std::fmt::Write;
 
 /// Writes messages for the link.
-fn push_handed_on(out: &mut String, handed_on: &HandedOn) -> anyhow::Result<()> {
+fn push_handed_on(out: &mut Answer, handed_on: &HandedOn) {
     if let Some(abort) = &handed_on.abort {
-        out.push_str("hands on ")?;
-        push_octets(out, abort.octets())?;
-        out.push_str(", ")?;
+        out.text("hands on ");
+        out.octets(abort.octets());
+        out.text(", ");
     }
-    out.push_str("hands on ")?;
-    push_octets(out, handed_on.message.octets())
+    out.text("hands on ");
+    out.octets(handed_on.message.octets())
 }
 
 /// Writes the result of a message from the network.
-fn push_outcome(out: &mut String, outcome: &Outcome) -> anyhow::Result<()> {
+fn push_outcome(out: &mut Answer, outcome: &Outcome) {
     match outcome {
         Outcome::HandedOn(handed_on) => push_handed_on(out, handed_on),
         Outcome::Answered(octets) => {
-            out.push_str("answers ")?;
-            push_octets(out, octets.as_slice())
+            out.text("answers ");
+            out.octets(octets.as_slice())
         }
-        Outcome::Nothing => Ok(out.push_str("nothing")?),
+        Outcome::Nothing => out.text("nothing"),
     }
 }
 
 /// Writes the result of a message from the link.
-fn push_sending(out: &mut String, sending: &Sending) -> anyhow::Result<()> {
+fn push_sending(out: &mut Answer, sending: &Sending) {
     match sending {
         Sending::By(message) => {
-            write!(out, "by {} ", message.connection)?;
-            push_octets(out, message.octets.as_slice())
+            out.labeled("by ", message.connection);
+            out.text(" ");
+            out.octets(message.octets.as_slice())
         }
-        Sending::NoConnection => Ok(out.push_str("no connection")?),
-        Sending::TooLong => Ok(out.push_str("too long")?),
+        Sending::NoConnection => out.text("no connection"),
+        Sending::TooLong => out.text("too long"),
     }
 }
 
 /// The two parts of a text at its first colon.
-fn parts(text: &str) -> (&str, &str) {
+pub(crate) fn parts(text: &str) -> (&str, &str) {
     match text.split_once(':') {
         Some((first, rest)) => (first, rest),
         None => (text, ""),
     }
 }
 
+/// A connection comes, under the name of a unit.
+fn come(adaptor: &mut Adaptor, connection: &str, unit: &str, out: &mut Answer) {
+    let connection = number_of(connection, out);
+    match adaptor.came(connection, number_of(unit, out)) {
+        Some(closed) => out.labeled("closes ", closed),
+        None => out.text("nothing"),
+    }
+}
+
+/// Octets come from a connection.
+fn receive(alloc: Global, adaptor: &mut Adaptor, connection: &str, text: &str, out: &mut Answer) {
+    let octets = octets_of(alloc, text, out);
+    let connection = number_of(connection, out);
+    match adaptor.received(connection, octets.as_slice()) {
+        Ok(outcome) => push_outcome(out, &outcome),
+        Err(_) => out.run_out(),
+    }
+}
+
+/// A message is sent.
+fn send(alloc: Global, adaptor: &mut Adaptor, text: &str, out: &mut Answer) {
+    let Some(frame) = frame_of(alloc, text, out) else {
+        return;
+    };
+    match adaptor.send(&frame) {
+        Ok(sending) => push_sending(out, &sending),
+        Err(_) => out.run_out(),
+    }
+}
+
 /// Handles an event, and writes its result.
-fn push_event(
-    alloc: Global,
-    out: &mut String,
-    adaptor: &mut Adaptor,
-    event: &str,
-) -> anyhow::Result<()> {
+fn push_event(alloc: Global, out: &mut Answer, adaptor: &mut Adaptor, event: &str) {
     let (kind, rest) = parts(event);
     let (first, second) = parts(rest);
     match kind {
-        "came" => match adaptor.came(first.parse()?, second.parse()?) {
-            Some(closed) => Ok(write!(out, "closes {closed}")?),
-            None => Ok(out.push_str("nothing")?),
-        },
+        "came" => come(adaptor, first, second, out),
         "ended" => {
-            adaptor.ended(first.parse()?);
-            Ok(out.push_str("nothing")?)
+            adaptor.ended(number_of(first, out));
+            out.text("nothing");
         }
-        "received" => {
-            let octets = octets_of(alloc, second)?;
-            let outcome = adaptor.received(first.parse()?, octets.as_slice())?;
-            push_outcome(out, &outcome)
-        }
-        "send" => {
-            let octets = octets_of(alloc, first)?;
-            let Some(frame) = Frame::new(Bytes::copy_from_slice(alloc, octets.as_slice())?) else {
-                bail!("no frame");
-            };
-            let sending = adaptor.send(&frame)?;
-            push_sending(out, &sending)
-        }
-        _ => bail!("no such event"),
+        "received" => receive(alloc, adaptor, first, second, out),
+        "send" => send(alloc, adaptor, first, out),
+        _ => out.fail("no such event"),
     }
 }
 
 /// Writes a count that isn't 0.
-fn push_count(out: &mut String, name: &str, count: u64) -> anyhow::Result<()> {
+fn push_count(out: &mut Answer, name: &str, count: u64) {
     if count > 0 {
-        write!(out, "; {name} {count}")?;
+        out.text("; ");
+        out.text(name);
+        out.labeled(" ", count);
     }
-    Ok(())
 }
 
 /// Writes the counts that aren't 0.
-fn push_counts(out: &mut String, adaptor: &Adaptor) -> anyhow::Result<()> {
-    push_count(out, "handed on", adaptor.count(Counted::HandedOn))?;
-    push_count(out, "segments", adaptor.count(Counted::Segment))?;
+fn push_counts(out: &mut Answer, adaptor: &Adaptor) {
+    push_count(out, "handed on", adaptor.count(Counted::HandedOn));
+    push_count(out, "segments", adaptor.count(Counted::Segment));
     push_count(
         out,
         "other subsystems",
         adaptor.count(Counted::OtherSubsystem),
-    )?;
-    push_count(out, "other senders", adaptor.count(Counted::OtherSender))?;
-    push_count(out, "management", adaptor.count(Counted::Management))?;
-    push_count(out, "returned", adaptor.count(Counted::Returned))?;
-    push_count(out, "unreadable", adaptor.count(Counted::Unreadable))?;
-    push_count(out, "sent", adaptor.count(Counted::Sent))?;
-    push_count(out, "dropped", adaptor.count(Counted::Dropped))?;
+    );
+    push_count(out, "other senders", adaptor.count(Counted::OtherSender));
+    push_count(out, "management", adaptor.count(Counted::Management));
+    push_count(out, "returned", adaptor.count(Counted::Returned));
+    push_count(out, "unreadable", adaptor.count(Counted::Unreadable));
+    push_count(out, "sent", adaptor.count(Counted::Sent));
+    push_count(out, "dropped", adaptor.count(Counted::Dropped));
     push_count(out, "too long", adaptor.count(Counted::TooLong))
 }
 
-/// The address of these octets.
-fn address(alloc: Global, text: &str) -> anyhow::Result<Address> {
-    let octets = octets_of(alloc, text)?;
-    match Address::new(octets.as_slice()) {
-        Some(address) => Ok(address),
-        None => bail!("no address"),
-    }
+/// The address of these octets. `None`, and a fault, if they are none.
+pub(crate) fn address_of(alloc: Global, text: &str, out: &mut Answer) -> Option<Address> {
+    let octets = octets_of(alloc, text, out);
+    found(Address::new(octets.as_slice()), "no address", out)
 }
 
 /// The results of the events of a link.
-fn link(alloc: Global, text: &str, out: &mut String) -> anyhow::Result<()> {
+fn link(alloc: Global, text: &str, out: &mut Answer) {
     let (own, rest) = first_word(text);
     let (exchange, rest) = first_word(rest);
     let (units, events) = first_word(rest);
-    let setting = Setting {
-        own: address(alloc, own)?,
-        exchange: address(alloc, exchange)?,
-        units: units.parse()?,
+    let own = address_of(alloc, own, out);
+    let exchange = address_of(alloc, exchange, out);
+    let (Some(own), Some(exchange)) = (own, exchange) else {
+        return;
     };
-    let mut adaptor = Adaptor::new(alloc, setting)?;
-    let mut is_first = true;
-    for event in events.split(' ') {
-        if !is_first {
-            out.push_str("; ")?;
-        }
-        is_first = false;
-        push_event(alloc, out, &mut adaptor, event)?;
+    let units = number_of(units, out);
+    let setting = Setting {
+        own,
+        exchange,
+        units,
+    };
+    if let Some(mut adaptor) = kept(Adaptor::new(alloc, setting), out) {
+        push_all(alloc, &mut adaptor, events, out);
     }
-    push_counts(out, &adaptor)
+}
+
+/// Handles events, and writes their results, and the counts after them.
+fn push_all(alloc: Global, adaptor: &mut Adaptor, events: &str, out: &mut Answer) {
+    for event in events.split(' ') {
+        out.separator("; ");
+        push_event(alloc, out, adaptor, event);
+    }
+    push_counts(out, adaptor);
 }
 
 /// Writes the result of a case of this kind. `false` if this module has no such cases.
-pub(crate) fn answer(
-    alloc: Global,
-    kind: &str,
-    rest: &str,
-    out: &mut String,
-) -> anyhow::Result<bool> {
+pub(crate) fn answer(alloc: Global, kind: &str, rest: &str, out: &mut Answer) -> bool {
     if kind != "adaptor" {
-        return Ok(false);
+        return false;
     }
-    link(alloc, rest, out)?;
-    Ok(true)
+    link(alloc, rest, out);
+    true
 }

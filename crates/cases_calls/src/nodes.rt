@@ -22,195 +22,188 @@
 //!
 //! More than 10,000 octets for a connection are written as their number, `K<#N`.
 
-use anyhow::bail;
-use cases::{first_word, octets_of, push_octets};
+use crate::connections::names_of;
+use crate::network::{address_of, parts};
+use crate::values::kept;
+use cases::{Answer, first_word, number_of, octets_of};
 use fp_ipa::UnitName;
 use fp_network::{Closing, Node, Plan};
-use fp_sccp::Address;
 use std::alloc::Global;
-use std::fmt::Write;
 use std::net::{Ipv4Addr, SocketAddr};
 
 /// The most octets for a connection that are written as octets.
 const MOST_WRITTEN: usize = 10_000;
 
-/// The two parts of a text at its first colon.
-fn parts(text: &str) -> (&str, &str) {
-    match text.split_once(':') {
-        Some((first, rest)) => (first, rest),
-        None => (text, ""),
-    }
-}
-
-/// The address of these octets.
-fn address(alloc: Global, text: &str) -> anyhow::Result<Address> {
-    let octets = octets_of(alloc, text)?;
-    match Address::new(octets.as_slice()) {
-        Some(address) => Ok(address),
-        None => bail!("no address"),
-    }
-}
-
-/// Units of these names.
-fn units(alloc: Global, text: &str) -> anyhow::Result<Vec<UnitName>> {
-    let mut names = Vec::new(alloc);
-    for piece in text.split(',') {
-        let Some(name) = UnitName::new(piece.as_bytes()) else {
-            bail!("no name");
-        };
-        names.push(name)?;
-    }
-    Ok(names)
+/// A connection comes.
+fn come(node: &mut Node, connection: &str, out: &mut Answer) {
+    let peer = SocketAddr::from((Ipv4Addr::LOCALHOST, 5000));
+    kept(node.came(peer, number_of(connection, out)), out);
 }
 
 /// A node receives octets of a connection.
-fn receive(alloc: Global, node: &mut Node, place: &str, text: &str) -> anyhow::Result<()> {
-    let octets = octets_of(alloc, text)?;
-    Ok(node.received(place.parse()?, octets.as_slice())?)
+fn receive(alloc: Global, node: &mut Node, place: &str, text: &str, out: &mut Answer) {
+    let octets = octets_of(alloc, text, out);
+    let place = number_of(place, out);
+    out.note(node.received(place, octets.as_slice()));
 }
 
 /// A node receives octets of its link this number of times.
-fn receive_from_link(alloc: Global, node: &mut Node, text: &str, times: u32) -> anyhow::Result<()> {
-    let octets = octets_of(alloc, text)?;
+fn receive_from_link(alloc: Global, node: &mut Node, text: &str, times: u32, out: &mut Answer) {
+    let octets = octets_of(alloc, text, out);
     for _ in 0..times {
-        node.received_from_link(octets.as_slice())?;
+        kept(node.received_from_link(octets.as_slice()), out);
     }
-    Ok(())
 }
 
 /// The connection in a place is read at a time, this number of times, and its socket may have more each time.
-fn read_often(node: &mut Node, place: usize, text: &str) -> anyhow::Result<()> {
+fn read_often(node: &mut Node, place: &str, text: &str, out: &mut Answer) {
     let (at, times) = parts(text);
-    let at = at.parse()?;
-    let times: u32 = times.parse()?;
+    let place: usize = number_of(place, out);
+    let at: u64 = number_of(at, out);
+    let times: u32 = number_of(times, out);
     for _ in 0..times {
         node.read_late(place, at, false);
     }
-    Ok(())
+}
+
+/// The connection in a place is read at a time, and its socket has nothing more.
+fn read_once(node: &mut Node, place: &str, at: &str, out: &mut Answer) {
+    let place: usize = number_of(place, out);
+    node.read_late(place, number_of(at, out), true);
 }
 
 /// Handles an event.
-fn happen(alloc: Global, node: &mut Node, event: &str) -> anyhow::Result<()> {
+fn happen(alloc: Global, node: &mut Node, event: &str, out: &mut Answer) {
     let (kind, rest) = parts(event);
     let (first, second) = parts(rest);
     match kind {
-        "came" => {
-            let peer = SocketAddr::from((Ipv4Addr::LOCALHOST, 5000));
-            node.came(peer, first.parse()?)?;
-        }
-        "received" => receive(alloc, node, first, second)?,
-        "over" => node.close(first.parse()?, Closing::PeerClosed),
-        "failed" => node.close(first.parse()?, Closing::Failed),
-        "link" => receive_from_link(alloc, node, first, 1)?,
-        "links" => receive_from_link(alloc, node, second, first.parse()?)?,
+        "came" => come(node, first, out),
+        "received" => receive(alloc, node, first, second, out),
+        "over" => node.close(number_of(first, out), Closing::PeerClosed),
+        "failed" => node.close(number_of(first, out), Closing::Failed),
+        "link" => receive_from_link(alloc, node, first, 1, out),
+        "links" => receive_from_link(alloc, node, second, number_of(first, out), out),
         "down" => node.close_all(),
-        "tick" => node.tick(first.parse()?),
-        "drain" => node.drain(first.parse()?),
-        "read" => node.read_late(first.parse()?, second.parse()?, true),
-        "reads" => read_often(node, first.parse()?, second)?,
+        "tick" => node.tick(number_of(first, out)),
+        "drain" => node.drain(number_of(first, out)),
+        "read" => read_once(node, first, second, out),
+        "reads" => read_often(node, first, second, out),
         "counts" | "common" => {}
-        _ => bail!("no such event"),
+        _ => out.fail("no such event"),
     }
-    Ok(())
 }
 
 /// Writes the events that the node reports.
-fn push_events(out: &mut String, node: &mut Node) -> anyhow::Result<()> {
+fn push_events(out: &mut Answer, node: &mut Node) {
     for _ in 0..100 {
         let Some(event) = node.next_event() else {
-            return Ok(());
+            return;
         };
-        write!(out, " [{event}]")?;
+        out.labeled(" [", event);
+        out.text("]");
     }
-    Ok(())
 }
 
 /// Writes octets, or their number if there are many.
-fn push_many(out: &mut String, octets: &[u8]) -> anyhow::Result<()> {
+fn push_many(out: &mut Answer, octets: &[u8]) {
     if octets.len() > MOST_WRITTEN {
-        return Ok(write!(out, "#{}", octets.len())?);
+        return out.labeled("#", octets.len());
     }
-    Ok(push_octets(out, octets)?)
+    out.octets(octets);
 }
 
 /// Writes the octets that wait for the connection in a place, and whether its writing side is to be shut. Clears the
 /// place if its connection is to be closed.
-fn push_waiting(out: &mut String, node: &mut Node, place: usize) -> anyhow::Result<()> {
+fn push_waiting(out: &mut Answer, node: &mut Node, place: usize) {
     if node.is_over(place) {
-        node.clear(place);
-        return Ok(());
+        return node.clear(place);
     }
     let count = node.waiting(place).len();
     if count > 0 {
-        write!(out, " {place}<")?;
-        push_many(out, node.waiting(place))?;
+        out.labeled(" ", place);
+        out.text("<");
+        push_many(out, node.waiting(place));
         node.written(place, count);
     }
     if node.is_to_shut(place) {
-        write!(out, " {place}|")?;
+        out.labeled(" ", place);
+        out.text("|");
         node.shut(place);
     }
-    Ok(())
 }
 
 /// Writes the octets that wait for the link.
-fn push_for_link(out: &mut String, node: &mut Node) -> anyhow::Result<()> {
+fn push_for_link(out: &mut Answer, node: &mut Node) {
     let count = node.waiting_for_link().len();
     if count > 0 {
-        out.push_str(" link<")?;
-        push_octets(out, node.waiting_for_link())?;
+        out.text(" link<");
+        out.octets(node.waiting_for_link());
         node.written_to_link(count);
     }
-    Ok(())
 }
 
 /// Writes the effects of an event on a node.
-fn push_effects(out: &mut String, node: &mut Node, event: &str) -> anyhow::Result<()> {
-    push_events(out, node)?;
+fn push_effects(out: &mut Answer, node: &mut Node, event: &str) {
+    push_events(out, node);
     for place in 0..Node::PLACES {
-        push_waiting(out, node, place)?;
+        push_waiting(out, node, place);
     }
-    push_for_link(out, node)?;
+    push_for_link(out, node);
     if event == "counts" {
-        write!(out, " {}", node.tally())?;
+        out.labeled(" ", node.tally());
     }
     if event == "common" {
-        let word = if node.has_no_common() { "none" } else { "one" };
-        write!(out, " {word}")?;
+        out.either(node.has_no_common(), " none", " one");
     }
-    Ok(())
 }
 
 /// The effects of the events of a node.
-fn node(alloc: Global, text: &str, out: &mut String) -> anyhow::Result<()> {
+fn node(alloc: Global, text: &str, out: &mut Answer) {
     let (own, rest) = first_word(text);
     let (exchange, rest) = first_word(rest);
     let (names, events) = first_word(rest);
-    let names = units(alloc, names)?;
-    let plan = Plan {
-        own: address(alloc, own)?,
-        exchange: address(alloc, exchange)?,
-        units: names.as_slice(),
+    let names = names_of(alloc, names, out);
+    node_with(alloc, own, exchange, names.as_slice(), events, out);
+}
+
+/// The effects of the events of a node with these addresses and units.
+fn node_with(
+    alloc: Global,
+    own: &str,
+    exchange: &str,
+    units: &[UnitName],
+    events: &str,
+    out: &mut Answer,
+) {
+    let own = address_of(alloc, own, out);
+    let exchange = address_of(alloc, exchange, out);
+    let (Some(own), Some(exchange)) = (own, exchange) else {
+        return;
     };
-    let mut node = Node::new(alloc, plan)?;
-    for event in events.split(' ') {
-        happen(alloc, &mut node, event)?;
-        push_effects(out, &mut node, event)?;
-        out.push_str(";")?;
+    let plan = Plan {
+        own,
+        exchange,
+        units,
+    };
+    if let Some(mut node) = kept(Node::new(alloc, plan), out) {
+        push_all(alloc, &mut node, events, out);
     }
-    Ok(())
+}
+
+/// Handles events, and writes the effects of each.
+fn push_all(alloc: Global, node: &mut Node, events: &str, out: &mut Answer) {
+    for event in events.split(' ') {
+        happen(alloc, node, event, out);
+        push_effects(out, node, event);
+        out.text(";");
+    }
 }
 
 /// Writes the result of a case of this kind. `false` if this module has no such cases.
-pub(crate) fn answer(
-    alloc: Global,
-    kind: &str,
-    rest: &str,
-    out: &mut String,
-) -> anyhow::Result<bool> {
+pub(crate) fn answer(alloc: Global, kind: &str, rest: &str, out: &mut Answer) -> bool {
     if kind != "node" {
-        return Ok(false);
+        return false;
     }
-    node(alloc, rest, out)?;
-    Ok(true)
+    node(alloc, rest, out);
+    true
 }

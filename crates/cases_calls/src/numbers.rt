@@ -12,15 +12,13 @@
 
 ghost use Rattle.std.specs.Prelude.{◌≡◌, ◌≤◌, ◌<◌, All, length, true};
 
-use crate::texts::{push_digits, push_value};
-use crate::values::cause_of;
-use anyhow::ensure;
-use cases::{octets_of, push_octets};
+use crate::texts::{push_digits, push_or};
+use crate::values::{cause_of, kept};
+use cases::{Answer, number_of, octets_of};
 use fp_digits::{
     Moment, NatureOfAddress, NoNumber, Number, cause, read_called, read_calling, write_called,
 };
 use std::alloc::Global;
-use std::fmt::Write;
 
 /// The name of a nature of address.
 fn nature_name(nature: NatureOfAddress) -> &'static str {
@@ -34,44 +32,48 @@ fn nature_name(nature: NatureOfAddress) -> &'static str {
 }
 
 /// Writes the nature of address of a number, by its name and its code, and its digits.
-fn push_number(out: &mut String, number: &Number) -> anyhow::Result<()> {
-    let nature = number.nature;
+fn push_number(out: &mut Answer, number: &Number) {
     let digits = number.digits.as_slice();
-    write!(out, "{} {}, digits ", nature_name(nature), nature.code())?;
+    out.text(nature_name(number.nature));
+    out.labeled(" ", number.nature.code());
+    out.text(", digits ");
     if digits.is_empty() {
-        out.push_str("empty")?;
+        out.text("empty");
     }
-    push_digits(out, digits)
+    push_digits(out, digits);
 }
 
 /// Writes a number that was read, or `NoNumber`.
-fn push_read(out: &mut String, read: Result<Number, NoNumber>) -> anyhow::Result<()> {
+fn push_read(out: &mut Answer, read: Result<Number, NoNumber>) {
     match read {
         Ok(number) => push_number(out, &number),
-        Err(NoNumber) => Ok(out.push_str("NoNumber")?),
+        Err(NoNumber) => out.text("NoNumber"),
     }
 }
 
 /// The number in the contents octets of a called party number.
-fn called(alloc: Global, text: &str, out: &mut String) -> anyhow::Result<()> {
-    let octets = octets_of(alloc, text)?;
-    push_read(out, read_called(octets.as_slice()))
+fn called(alloc: Global, text: &str, out: &mut Answer) {
+    let octets = octets_of(alloc, text, out);
+    push_read(out, read_called(octets.as_slice()));
 }
 
 /// The number in the contents octets of a calling party number.
-fn calling(alloc: Global, text: &str, out: &mut String) -> anyhow::Result<()> {
-    let octets = octets_of(alloc, text)?;
-    push_read(out, read_calling(octets.as_slice()))
+fn calling(alloc: Global, text: &str, out: &mut Answer) {
+    let octets = octets_of(alloc, text, out);
+    push_read(out, read_calling(octets.as_slice()));
 }
 
 /// The decimal digits of a text.
-pub(crate) fn digits_of(alloc: Global, text: &str) -> anyhow::Result<Vec<u8>> {
+pub(crate) fn digits_of(alloc: Global, text: &str, out: &mut Answer) -> Vec<u8> {
     let mut digits = Vec::new(alloc);
     for octet in text.as_bytes() {
-        ensure!(octet.is_ascii_digit(), "{text} is no number");
-        digits.push(*octet - b'0')?;
+        if octet.is_ascii_digit() {
+            out.push(&mut digits, *octet - b'0');
+        } else {
+            out.fail("no number");
+        }
     }
-    Ok(digits)
+    digits
 }
 
 /// Whether these are 1 to 15 decimal digits.
@@ -84,41 +86,39 @@ pub(crate) fn are_writable(digits: &[u8]) -> bool
 }
 
 /// The contents octets of a called party number with these digits.
-fn write(alloc: Global, text: &str, out: &mut String) -> anyhow::Result<()> {
-    let digits = digits_of(alloc, text)?;
+fn write(alloc: Global, text: &str, out: &mut Answer) {
+    let digits = digits_of(alloc, text, out);
     let digits = digits.as_slice();
-    ensure!(are_writable(digits), "not 1 to 15 decimal digits");
-    push_octets(out, write_called(digits).as_slice())
+    if are_writable(digits) {
+        out.octets(write_called(digits).as_slice());
+    } else {
+        out.fail("not 1 to 15 decimal digits");
+    }
 }
 
 /// The value and the contents octets of a cause.
-fn coded_cause(text: &str, out: &mut String) -> anyhow::Result<()> {
-    let value = cause_of(text)?.code();
-    write!(out, "value {value}, ")?;
-    push_octets(out, &cause(value))
+fn coded_cause(text: &str, out: &mut Answer) {
+    let value = cause_of(text, out).code();
+    out.labeled("value ", value);
+    out.text(", ");
+    out.octets(&cause(value));
 }
 
 /// The moment this many milliseconds after 1970-01-01T00:00:00Z.
-fn moment(text: &str, out: &mut String) -> anyhow::Result<()> {
-    let moment = Moment::new(text.parse()?);
-    push_value(out, moment.map(|moment| moment.milliseconds()), "none")
+fn moment(text: &str, out: &mut Answer) {
+    let moment = Moment::new(number_of(text, out));
+    push_or(out, moment.map(|moment| moment.milliseconds()), "none");
 }
 
 /// Writes the result of a case of this kind. `false` if this module has no such cases.
-pub(crate) fn answer(
-    alloc: Global,
-    kind: &str,
-    rest: &str,
-    out: &mut String,
-) -> anyhow::Result<bool> {
-    let written = match kind {
+pub(crate) fn answer(alloc: Global, kind: &str, rest: &str, out: &mut Answer) -> bool {
+    match kind {
         "called" => called(alloc, rest, out),
         "calling" => calling(alloc, rest, out),
         "write-called" => write(alloc, rest, out),
         "cause" => coded_cause(rest, out),
         "moment" => moment(rest, out),
-        _ => return Ok(false),
-    };
-    written?;
-    Ok(true)
+        _ => return false,
+    }
+    true
 }

@@ -26,16 +26,16 @@ mod rules;
 
 use crate::records::files::{file_of, push_part_text};
 use crate::records::rules::push_rule;
-use crate::texts::{push_digits, push_text};
-use crate::values::{national_number_of, number_of};
-use anyhow::bail;
-use cases::first_word;
+use crate::texts::push_digits;
+use crate::values::{after_noon, found, kept, national_number_of, number_with};
+use cases::{Answer, first_word, number_of};
 use fp_digits::{Moment, NatureOfAddress, Number};
 use fp_records::{Action, Destinations, Record, RecordsFault, Table, migrate};
 use jiff::Timestamp;
 pub(crate) use only::{only_rule, routed_to};
 pub(crate) use rules::push_destinations;
 use std::alloc::Global;
+use std::sync::Arc;
 
 /// The state that cases leave for later ones.
 #[derive(Drop)]
@@ -59,255 +59,275 @@ impl Scene {
         alloc: Global,
         kind: &str,
         rest: &str,
-        out: &mut String,
-    ) -> anyhow::Result<bool> {
-        let written = match kind {
+        out: &mut Answer,
+    ) -> bool {
+        match kind {
             "file" => read(alloc, &mut self.file, rest, out),
             "other-file" => read(alloc, &mut self.other_file, rest, out),
             "migrate" => migrate_file(alloc, rest, out),
-            "find" => find(&self.file, rest, out),
-            "choose" => choose(&self.file, rest, out),
+            "find" => find(alloc, &self.file, rest, out),
+            "choose" => choose(alloc, &self.file, rest, out),
             "holds" => holds(&self.file, rest, out),
             "same-record" => same_record(&self.file, &self.other_file, rest, out),
             "destinations" => in_turn(alloc, rest, out),
             "same-destinations" => same_destinations(alloc, rest, out),
-            "fault" => push_fault(RecordsFault::Memory, out),
-            _ => return Ok(false),
-        };
-        written?;
-        Ok(true)
+            "fault" => out.value(RecordsFault::Memory),
+            _ => return false,
+        }
+        true
     }
 }
 
 /// Reads a file, and puts its table into `place`; nothing if the file has a fault.
-fn read(
-    alloc: Global,
-    place: &mut Option<Table>,
-    text: &str,
-    out: &mut String,
-) -> anyhow::Result<()> {
+fn read(alloc: Global, place: &mut Option<Table>, text: &str, out: &mut Answer) {
     *place = None;
-    let file = file_of(alloc, text)?;
+    let file = file_of(alloc, text, out);
     match Table::read(alloc, file.as_slice()) {
         Ok(table) => {
+            push_counts(&table, out);
             *place = Some(table);
-            push_counts(place, out)
         }
-        Err(fault) => push_fault(fault, out),
+        Err(fault) => out.value(fault),
     }
 }
 
 /// Writes the migration of a file, appended to a vector with one octet.
-fn migrate_file(alloc: Global, text: &str, out: &mut String) -> anyhow::Result<()> {
-    let file = file_of(alloc, text)?;
+fn migrate_file(alloc: Global, text: &str, out: &mut Answer) {
+    let file = file_of(alloc, text, out);
     let mut migrated = Vec::new(alloc);
-    migrated.push(b'>')?;
+    out.push(&mut migrated, b'>');
     let result = migrate(alloc, file.as_slice(), &mut migrated);
-    push_part_text(out, migrated.as_slice())?;
-    match result {
-        Ok(()) => Ok(()),
-        Err(fault) => {
-            out.push(' ')?;
-            push_fault(fault, out)
+    push_part_text(out, migrated.as_slice());
+    if let Err(fault) = result {
+        out.labeled(" ", fault);
+    }
+}
+
+/// Writes the service key of a table, and how many numbers, rules and closed days it has.
+fn push_counts(table: &Table, out: &mut Answer) {
+    let (numbers, rules) = table.counts();
+    out.labeled("key ", table.key());
+    out.labeled(", numbers ", numbers);
+    out.labeled(", rules ", rules);
+    if table.closed() > 0 {
+        out.labeled(", closed ", table.closed());
+    }
+}
+
+/// The table of the file that was read. `None`, and a fault, if none was.
+fn table_in<'a>(place: &'a Option<Table>, out: &mut Answer) -> Option<&'a Table> {
+    found(place.as_ref(), "no file was read", out)
+}
+
+/// The nature of address of this name.
+fn nature_of(text: &str, out: &mut Answer) -> NatureOfAddress {
+    match text {
+        "national" => NatureOfAddress::NATIONAL,
+        "international" => NatureOfAddress::INTERNATIONAL,
+        _ => {
+            out.fail("no nature of address");
+            NatureOfAddress::NATIONAL
         }
     }
 }
 
-/// Writes the fault of a file.
-fn push_fault(fault: RecordsFault, out: &mut String) -> anyhow::Result<()> {
-    write!(out, "{fault}")?;
-    Ok(())
-}
-
-/// Writes the service key of a table, and how many numbers, rules and closed days it has.
-fn push_counts(place: &Option<Table>, out: &mut String) -> anyhow::Result<()> {
-    let table = table_in(place)?;
-    let (numbers, rules) = table.counts();
-    write!(out, "key {}, numbers {numbers}, rules {rules}", table.key())?;
-    match table.closed() {
-        0 => Ok(()),
-        closed => Ok(write!(out, ", closed {closed}")?),
-    }
-}
-
-/// The table of the file that was read.
-fn table_in(place: &Option<Table>) -> anyhow::Result<&Table> {
-    match place {
-        Some(table) => Ok(table),
-        None => bail!("no file was read"),
-    }
-}
-
 /// Writes the table's answer to a called number.
-fn find(place: &Option<Table>, text: &str, out: &mut String) -> anyhow::Result<()> {
+fn find(alloc: Global, place: &Option<Table>, text: &str, out: &mut Answer) {
     let (nature, digits) = first_word(text);
-    let nature = match nature {
-        "national" => NatureOfAddress::NATIONAL,
-        "international" => NatureOfAddress::INTERNATIONAL,
-        _ => bail!("no nature of address"),
-    };
-    let called = number_of(nature, digits)?;
-    let Some(record) = table_in(place)?.find(&called) else {
-        return push_text("no record", out);
+    let nature = nature_of(nature, out);
+    let called = number_with(nature, digits, out);
+    if let Some(table) = table_in(place, out) {
+        push_record(alloc, table.find(&called), out);
+    }
+}
+
+/// Writes a record: its rule if it has just one; or `no record`.
+fn push_record(alloc: Global, record: Option<&Arc<Record>>, out: &mut Answer) {
+    let Some(record) = record else {
+        return out.text("no record");
     };
     match record.only_rule() {
-        Some(rule) => push_rule(out, rule),
-        None => push_text("several rules", out),
+        Some(rule) => push_rule(alloc, out, rule),
+        None => out.text("several rules"),
     }
 }
 
 /// The calling number, or `None` if there is none.
-fn calling_of(text: &str) -> anyhow::Result<Option<Number>> {
+fn calling_of(text: &str, out: &mut Answer) -> Option<Number> {
     if text == "none" {
-        return Ok(None);
+        return None;
     }
-    Ok(Some(national_number_of(text)?))
+    Some(national_number_of(text, out))
 }
 
-/// The moment that a text names.
-fn moment_of(text: &str) -> anyhow::Result<Moment> {
-    let instant: Timestamp = text.parse()?;
-    match Moment::new(u64::try_from(instant.as_millisecond())?) {
-        Some(moment) => Ok(moment),
-        None => bail!("no moment"),
+/// The milliseconds since 1970 of the moment that a text names. `None`, and a fault, if it names none.
+fn milliseconds_of(text: &str, out: &mut Answer) -> Option<u64> {
+    let instant: Timestamp = kept(text.parse(), out)?;
+    kept(u64::try_from(instant.as_millisecond()), out)
+}
+
+/// The moment that a text names; noon, and a fault, if it names none.
+fn moment_of(text: &str, out: &mut Answer) -> Moment {
+    match milliseconds_of(text, out).and_then(Moment::new) {
+        Some(moment) => moment,
+        None => {
+            out.fail("no moment");
+            after_noon(0)
+        }
     }
 }
 
 /// Writes the rule that a call gets.
-fn choose(place: &Option<Table>, text: &str, out: &mut String) -> anyhow::Result<()> {
+fn choose(alloc: Global, place: &Option<Table>, text: &str, out: &mut Answer) {
     let (called, call) = first_word(text);
-    let called = national_number_of(called)?;
-    match table_in(place)?.find(&called) {
-        Some(record) => choose_in(record, call, out),
-        None => push_text("no record", out),
+    let called = national_number_of(called, out);
+    if let Some(table) = table_in(place, out) {
+        push_choice(alloc, table.find(&called), call, out);
+    }
+}
+
+/// Writes the rule of a record that a call gets, or `no record`.
+fn push_choice(alloc: Global, record: Option<&Arc<Record>>, call: &str, out: &mut Answer) {
+    match record {
+        Some(record) => choose_in(alloc, record, call, out),
+        None => out.text("no record"),
     }
 }
 
 /// Writes the rule of a record that a call gets.
-fn choose_in(record: &Record, call: &str, out: &mut String) -> anyhow::Result<()> {
+fn choose_in(alloc: Global, record: &Record, call: &str, out: &mut Answer) {
     let (calling, rest) = first_word(call);
     let (moment, birth) = first_word(rest);
-    let calling = calling_of(calling)?;
-    let moment = moment_of(moment)?;
-    match record.choose(calling.as_ref(), moment, birth.parse()?) {
-        Some(rule) => push_rule(out, rule),
-        None => push_text("no rule", out),
+    let calling = calling_of(calling, out);
+    let moment = moment_of(moment, out);
+    let birth: u64 = number_of(birth, out);
+    match record.choose(calling.as_ref(), moment, birth) {
+        Some(rule) => push_rule(alloc, out, rule),
+        None => out.text("no rule"),
     }
 }
 
 /// The minute of the day that a text `HH:MM` names.
-fn minute_of(text: &str) -> anyhow::Result<u16> {
-    let Some((hour, minute)) = text.split_once(':') else {
-        bail!("no minute");
-    };
-    let hour: u8 = hour.parse()?;
-    let minute: u8 = minute.parse()?;
-    Ok(60 * u16::from(hour) + u16::from(minute))
+fn minute_of(text: &str, out: &mut Answer) -> u16 {
+    let (hour, minute) = text.split_once(':').unwrap_or((text, ""));
+    let hour: u8 = number_of(hour, out);
+    let minute: u8 = number_of(minute, out);
+    60 * u16::from(hour) + u16::from(minute)
 }
 
 /// Writes whether the window of a number's only rule holds a minute.
-fn holds(place: &Option<Table>, text: &str, out: &mut String) -> anyhow::Result<()> {
+fn holds(place: &Option<Table>, text: &str, out: &mut Answer) {
     let (called, minute) = first_word(text);
-    let minute = minute_of(minute)?;
-    let rule = only_rule(table_in(place)?, called)?;
-    let answer = if rule.window.holds(minute) {
-        "yes"
-    } else {
-        "no"
-    };
-    push_text(answer, out)
+    let minute = minute_of(minute, out);
+    if let Some(table) = table_in(place, out) {
+        push_holds(table, called, minute, out);
+    }
+}
+
+/// Writes whether the window of a number's only rule holds a minute.
+fn push_holds(table: &Table, called: &str, minute: u16, out: &mut Answer) {
+    if let Some(rule) = only_rule(table, called, out) {
+        out.either(rule.window.holds(minute), "yes", "no");
+    }
 }
 
 /// Writes whether two values are the same, as compared both ways.
-fn push_same(one: bool, other: bool, out: &mut String) -> anyhow::Result<()> {
-    let text = match (one, other) {
+fn push_same(one: bool, other: bool, out: &mut Answer) {
+    out.text(match (one, other) {
         (true, true) => "the same",
         (false, false) => "not the same",
         _ => "the same if one is asked, and not if the other is",
-    };
-    push_text(text, out)
+    });
+}
+
+/// The record of a called number in a file. `None`, and a fault, if there is none.
+fn record_in<'a>(
+    place: &'a Option<Table>,
+    called: &Number,
+    out: &mut Answer,
+) -> Option<&'a Record> {
+    match table_in(place, out)?.find(called) {
+        Some(record) => Some(record),
+        None => {
+            out.fail("no record");
+            None
+        }
+    }
 }
 
 /// Writes whether two files have the same record for a number.
-fn same_record(
-    place: &Option<Table>,
-    other: &Option<Table>,
-    called: &str,
-    out: &mut String,
-) -> anyhow::Result<()> {
-    let called = national_number_of(called)?;
-    let Some(record) = table_in(place)?.find(&called) else {
-        bail!("no record");
-    };
-    let Some(other) = table_in(other)?.find(&called) else {
-        bail!("no record in the other file");
-    };
-    push_same(record == other, other == record, out)
+fn same_record(place: &Option<Table>, other: &Option<Table>, called: &str, out: &mut Answer) {
+    let called = national_number_of(called, out);
+    let record = record_in(place, &called, out);
+    let other = record_in(other, &called, out);
+    if let (Some(record), Some(other)) = (record, other) {
+        push_same(record == other, other == record, out);
+    }
 }
 
 /// Writes whether two texts spell the same destinations.
-fn same_destinations(alloc: Global, text: &str, out: &mut String) -> anyhow::Result<()> {
+fn same_destinations(alloc: Global, text: &str, out: &mut Answer) {
     let (one, other) = first_word(text);
-    let one = routed_to(alloc, one)?;
-    let other = routed_to(alloc, other)?;
-    same_routes(&one, &other, out)
+    let Some(one) = routed_to(alloc, one, out) else {
+        return;
+    };
+    if let Some(other) = routed_to(alloc, other, out) {
+        same_routes(&one, &other, out);
+    }
+}
+
+/// The destinations of a table's only rule. `None`, and a fault, if it has none.
+fn destinations_in(table: &Table, out: &mut Answer) -> Option<Destinations> {
+    if let Action::Route(destinations) = only_rule(table, "5", out)?.action {
+        return Some(destinations);
+    }
+    out.fail("no destinations");
+    None
 }
 
 /// Writes whether the only rules of two tables have the same destinations.
-fn same_routes(one: &Table, other: &Table, out: &mut String) -> anyhow::Result<()> {
-    let rule = only_rule(one, "5")?;
-    let other = only_rule(other, "5")?;
-    let Action::Route(one) = rule.action else {
-        bail!("no destinations");
-    };
-    let Action::Route(other) = other.action else {
-        bail!("no destinations");
-    };
-    push_same(one == other, other == one, out)
+fn same_routes(one: &Table, other: &Table, out: &mut Answer) {
+    let one = destinations_in(one, out);
+    let other = destinations_in(other, out);
+    push_same(one == other, other == one, out);
 }
 
 /// Writes the first of the destinations of a text and the others, then the same for the others, and so on.
-fn in_turn(alloc: Global, text: &str, out: &mut String) -> anyhow::Result<()> {
-    let table = routed_to(alloc, text)?;
-    push_in_turn(&table, out)
+fn in_turn(alloc: Global, text: &str, out: &mut Answer) {
+    if let Some(table) = routed_to(alloc, text, out) {
+        push_in_turn(&table, out);
+    }
 }
 
 /// Writes the first destination of a table's only rule and the others, then the same for the others, and so on.
-fn push_in_turn(table: &Table, out: &mut String) -> anyhow::Result<()> {
-    let rule = only_rule(table, "5")?;
-    let Action::Route(destinations) = rule.action else {
-        bail!("no destinations");
-    };
-    let mut left = Some(destinations);
+fn push_in_turn(table: &Table, out: &mut Answer) {
+    let mut left = destinations_in(table, out);
     for _ in 0..4 {
         let Some(list) = left else {
             break;
         };
-        push_split(&list, out)?;
+        push_split(&list, out);
         left = list.split_first().left;
     }
-    Ok(())
 }
 
 /// Writes a list of destinations, its first one and the others, after a semicolon if there is text before it.
-fn push_split(list: &Destinations, out: &mut String) -> anyhow::Result<()> {
+fn push_split(list: &Destinations, out: &mut Answer) {
     let split = list.split_first();
-    if !out.is_empty() {
-        out.push_str("; ")?;
-    }
-    out.push('[')?;
-    push_destinations(out, list)?;
-    out.push_str("]: ")?;
+    out.separator("; ");
+    out.character('[');
+    push_destinations(out, list);
+    out.text("]: ");
     let digits = split.first.digits();
-    push_digits(out, digits.as_slice())?;
+    push_digits(out, digits.as_slice());
     push_left(&split.left, out)
 }
 
 /// Writes the destinations after the first, or `none`.
-fn push_left(left: &Option<Destinations>, out: &mut String) -> anyhow::Result<()> {
-    out.push_str(" and ")?;
+fn push_left(left: &Option<Destinations>, out: &mut Answer) {
+    out.text(" and ");
     match left {
         Some(left) => push_destinations(out, left),
-        None => push_text("none", out),
+        None => out.text("none"),
     }
 }

@@ -1,5 +1,7 @@
 //! A file of records that grows row by row.
 
+use crate::values::kept;
+use cases::Answer;
 use fp_records::Table;
 use std::alloc::Global;
 
@@ -21,37 +23,34 @@ impl Rows {
     }
 
     /// Begins a file with its first record, and writes how many numbers and rules it has.
-    pub(crate) fn begin(
-        &mut self,
-        alloc: Global,
-        head: &str,
-        out: &mut String,
-    ) -> anyhow::Result<()> {
+    pub(crate) fn begin(&mut self, alloc: Global, head: &str, out: &mut Answer) {
         self.text.clear();
         self.push(alloc, head, out)
     }
 
     /// Adds a record after the others, and writes how many numbers and rules there are.
-    pub(crate) fn push(
-        &mut self,
-        alloc: Global,
-        row: &str,
-        out: &mut String,
-    ) -> anyhow::Result<()> {
-        self.text.push_str(row)?;
-        self.text.push('\n')?;
-        let table = Table::read(alloc, self.text.as_bytes())?;
-        let (numbers, rules) = table.counts();
-        self.table = Some(table);
-        write!(out, "{numbers} numbers, {rules} rules")?;
-        Ok(())
-    }
-
-    /// The table of the file.
-    pub(crate) fn table(&self) -> anyhow::Result<&Table> {
-        match &self.table {
-            Some(table) => Ok(table),
-            None => anyhow::bail!("no records"),
+    pub(crate) fn push(&mut self, alloc: Global, row: &str, out: &mut Answer) {
+        out.note(self.text.push_str(row));
+        out.note(self.text.push('\n'));
+        self.table = kept(Table::read(alloc, self.text.as_bytes()), out);
+        if let Some(table) = &self.table {
+            push_counts(table, out);
         }
     }
+
+    /// The table of the file. `None`, and a fault, if there is none.
+    pub(crate) fn table(&self, out: &mut Answer) -> Option<&Table> {
+        if self.table.is_none() {
+            out.fail("no records");
+        }
+        self.table.as_ref()
+    }
+}
+
+/// Writes how many numbers and rules a table has.
+fn push_counts(table: &Table, out: &mut Answer) {
+    let (numbers, rules) = table.counts();
+    out.value(numbers);
+    out.labeled(" numbers, ", rules);
+    out.text(" rules");
 }

@@ -19,8 +19,8 @@ use crate::kinds::kind_of;
 use crate::rows::Rows;
 use crate::steps::shown::{push_core, push_served};
 use crate::values::after_noon;
-use cases::first_word;
-use fp_entry::Entry;
+use cases::{Answer, first_word, number_of};
+use fp_entry::{Entry, EntryKind};
 use fp_service::{Core, step};
 use std::alloc::Global;
 
@@ -48,59 +48,67 @@ impl Scene {
         alloc: Global,
         kind: &str,
         rest: &str,
-        out: &mut String,
-    ) -> anyhow::Result<bool> {
-        let written = match kind {
+        out: &mut Answer,
+    ) -> bool {
+        match kind {
             "step-table" => self.rows.begin(alloc, rest, out),
             "step-row" => self.rows.push(alloc, rest, out),
             "fresh" => self.fresh(rest, out),
             "step" => self.step(alloc, rest, out),
             "again" => self.step_again(alloc, rest, out),
             "core" => self.whole(rest, out),
-            _ => return Ok(false),
-        };
-        written?;
-        Ok(true)
+            _ => return false,
+        }
+        true
     }
 
     /// Begins a dialogue, and writes its core.
-    fn fresh(&mut self, text: &str, out: &mut String) -> anyhow::Result<()> {
-        self.begin(if text.is_empty() { "1 0" } else { text })?;
-        push_core(&self.core, out)
+    fn fresh(&mut self, text: &str, out: &mut Answer) {
+        self.begin(if text.is_empty() { "1 0" } else { text }, out);
+        push_core(&self.core, out);
     }
 
     /// Begins a dialogue. The text has its number on its link, and its moment in milliseconds after noon.
-    fn begin(&mut self, text: &str) -> anyhow::Result<()> {
+    fn begin(&mut self, text: &str, out: &mut Answer) {
         let (birth, milliseconds) = first_word(text);
-        let birth = birth.parse()?;
-        let moment = after_noon(milliseconds.parse()?);
+        let birth: u64 = number_of(birth, out);
+        let moment = after_noon(number_of(milliseconds, out));
         self.core = Core::new(birth, moment);
-        Ok(())
     }
 
     /// Serves an entry.
-    fn step(&mut self, alloc: Global, text: &str, out: &mut String) -> anyhow::Result<()> {
+    fn step(&mut self, alloc: Global, text: &str, out: &mut Answer) {
         let (milliseconds, kind) = first_word(text);
-        let moment = after_noon(milliseconds.parse()?);
-        let kind = kind_of(alloc, self.rows.table()?, kind)?;
-        self.serve(alloc, &Entry { moment, kind }, out)
+        let moment = after_noon(number_of(milliseconds, out));
+        if let Some(kind) = self.kind(alloc, kind, out) {
+            self.serve(alloc, &Entry { moment, kind }, out);
+        }
+    }
+
+    /// The kind of entry that a text spells.
+    fn kind(&self, alloc: Global, text: &str, out: &mut Answer) -> Option<EntryKind> {
+        kind_of(alloc, self.rows.table(out)?, text, out)
     }
 
     /// Serves an entry from the kept core.
-    fn step_again(&mut self, alloc: Global, text: &str, out: &mut String) -> anyhow::Result<()> {
+    fn step_again(&mut self, alloc: Global, text: &str, out: &mut Answer) {
         self.core = self.kept;
         self.step(alloc, text, out)
     }
 
     /// Serves an entry, and writes the core after it and the request.
-    fn serve(&mut self, alloc: Global, entry: &Entry, out: &mut String) -> anyhow::Result<()> {
-        let (core, request) = step(alloc, &self.core, entry)?;
-        self.core = core;
-        push_served(&core, &request, out)
+    fn serve(&mut self, alloc: Global, entry: &Entry, out: &mut Answer) {
+        match step(alloc, &self.core, entry) {
+            Ok((core, request)) => {
+                self.core = core;
+                push_served(&core, &request, out);
+            }
+            Err(_) => out.run_out(),
+        }
     }
 
     /// Keeps the core, or compares it with the kept one or itself.
-    fn whole(&mut self, word: &str, out: &mut String) -> anyhow::Result<()> {
+    fn whole(&mut self, word: &str, out: &mut Answer) {
         let text = match word {
             "keep" => {
                 self.kept = self.core;
@@ -110,8 +118,7 @@ impl Scene {
             "itself" => comparison(&self.core, &self.core),
             _ => "no case of a core",
         };
-        out.push_str(text)?;
-        Ok(())
+        out.text(text);
     }
 }
 

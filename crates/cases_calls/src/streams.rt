@@ -8,10 +8,9 @@
 //! A READ is the octets that one read gives, `interrupted`, or `fault`. After the last one the input is at its end.
 //! Lines and octets are hexadecimal, and `empty` if there are none.
 
-use cases::{first_word, octets_of, push_octets};
+use cases::{Answer, first_word, number_of, octets_of};
 use fp_streams::{Counted, LinesFault, TakesLine, follow_lines, write_all};
 use std::alloc::Global;
-use std::fmt::Write;
 use std::io;
 use std::io::{ErrorKind, Read};
 
@@ -33,9 +32,11 @@ impl Read for Reads<'_> {
         if word == "interrupted" {
             return Err(io::Error::from(ErrorKind::Interrupted));
         }
-        let Ok(octets) = octets_of(self.alloc, word) else {
+        let mut fault = Answer::new(self.alloc);
+        let octets = octets_of(self.alloc, word, &mut fault);
+        if fault.is_faulty() {
             return Err(io::Error::from(ErrorKind::Other));
-        };
+        }
         let mut octets = octets.as_slice();
         octets.read(room)
     }
@@ -65,11 +66,15 @@ impl io::Write for Pieces {
 /// A taker of lines that writes each one down.
 #[derive(Drop)]
 struct Taken {
-    text: String,
+    lines: Answer,
 }
 
+/// A line that is refused: the octet FF.
+#[derive(Drop)]
+struct RefusedLine;
+
 impl TakesLine for Taken {
-    type Fault = anyhow::Error;
+    type Fault = RefusedLine;
 
     ghost takes = { λ _ _ _ _. Unit {0} };
 
@@ -80,12 +85,12 @@ impl TakesLine for Taken {
         line: &[u8],
         has_line_feed: bool,
         is_followed: bool,
-    ) -> Result<(), anyhow::Error> {
+    ) -> Result<(), RefusedLine> {
         if line == b"\xFF".as_slice() {
-            anyhow::bail!("refused");
+            return Err(RefusedLine);
         }
-        push_octets(&mut self.text, line)?;
-        self.text.push_str(after_line(has_line_feed, is_followed))?;
+        self.lines.octets(line);
+        self.lines.text(after_line(has_line_feed, is_followed));
         Ok(())
     }
 }
@@ -100,91 +105,92 @@ fn after_line(has_line_feed: bool, is_followed: bool) -> &'static str {
 }
 
 /// Writes why no more lines were taken.
-fn push_fault(out: &mut String, fault: LinesFault<anyhow::Error>) -> anyhow::Result<()> {
+fn push_fault(out: &mut Answer, fault: LinesFault<RefusedLine>) {
     let (number, why) = match fault {
         LinesFault::TooLong(number) => (number, "too long"),
         LinesFault::Refused(number, _) => (number, "refused"),
-        LinesFault::ReadFault => return Ok(out.push_str("read fault")?),
-        LinesFault::TurnLimit => return Ok(out.push_str("turn limit")?),
-        LinesFault::Memory => return Ok(out.push_str("out of memory")?),
+        LinesFault::ReadFault => return out.text("read fault"),
+        LinesFault::TurnLimit => return out.text("turn limit"),
+        LinesFault::Memory => return out.text("out of memory"),
     };
-    Ok(write!(out, "line {number} {why}")?)
+    out.labeled("line ", number);
+    out.text(" ");
+    out.text(why);
 }
 
 /// Writes the lines that are taken from a reader, and why there are no more.
 fn push_lines(
-    out: &mut String,
+    out: &mut Answer,
     most_octets: usize,
     most_reads: u64,
     reader: &mut Counted<Reads<'_>>,
-) -> anyhow::Result<()> {
+) {
     let alloc = reader.device.alloc;
     let mut taken = Taken {
-        text: String::new(alloc),
+        lines: Answer::new(alloc),
     };
     let end = follow_lines(alloc, most_octets, most_reads, reader, &mut taken);
-    out.push_str(taken.text.as_str())?;
-    let Err(fault) = end else {
-        return Ok(out.push_str("end")?);
-    };
-    push_fault(out, fault)?;
-    Ok(write!(out, ", {} failed", reader.failed)?)
+    out.append(&taken.lines);
+    match end {
+        Ok(_) => out.text("end"),
+        Err(fault) => {
+            push_fault(out, fault);
+            out.labeled(", ", reader.failed);
+            out.text(" failed");
+        }
+    }
 }
 
 /// The lines that are taken from a reader, and why there are no more.
-fn lines(alloc: Global, text: &str, out: &mut String) -> anyhow::Result<()> {
+fn lines(alloc: Global, text: &str, out: &mut Answer) {
     let (most, text) = first_word(text);
     let (reads, words) = first_word(text);
     let mut reader = Counted::new(Reads { alloc, words });
-    push_lines(out, most.parse()?, reads.parse()?, &mut reader)
+    let most: usize = number_of(most, out);
+    let reads: u64 = number_of(reads, out);
+    push_lines(out, most, reads, &mut reader);
 }
 
 /// A writer of pieces.
-fn counted_pieces(alloc: Global, piece: &str, room: &str) -> anyhow::Result<Counted<Pieces>> {
-    let piece: usize = piece.parse()?;
-    let room: usize = room.parse()?;
-    Ok(Counted::new(Pieces {
+fn counted_pieces(alloc: Global, piece: &str, room: &str, out: &mut Answer) -> Counted<Pieces> {
+    let piece: usize = number_of(piece, out);
+    let room: usize = number_of(room, out);
+    Counted::new(Pieces {
         octets: Vec::new(alloc),
         piece,
         room,
-    }))
+    })
 }
 
 /// Writes these octets to a writer of pieces, and the result to `out`.
-fn push_written(
-    out: &mut String,
-    writer: &mut Counted<Pieces>,
-    octets: &[u8],
-) -> anyhow::Result<()> {
+fn push_written(out: &mut Answer, writer: &mut Counted<Pieces>, octets: &[u8]) {
     match write_all(writer, octets) {
-        Ok(()) => Ok(out.push_str("written: ")?),
-        Err(fault) => Ok(write!(out, "{fault}: ")?),
+        Ok(()) => out.text("written: "),
+        Err(fault) => {
+            out.value(fault);
+            out.text(": ");
+        }
     }
 }
 
 /// The result of writing octets, the octets written, and how often the writer failed.
-fn written(alloc: Global, text: &str, out: &mut String) -> anyhow::Result<()> {
+fn written(alloc: Global, text: &str, out: &mut Answer) {
     let (piece, text) = first_word(text);
     let (room, text) = first_word(text);
-    let mut writer = counted_pieces(alloc, piece, room)?;
-    let octets = octets_of(alloc, text)?;
-    push_written(out, &mut writer, octets.as_slice())?;
-    push_octets(out, writer.device.octets.as_slice())?;
-    Ok(write!(out, ", {} failed", writer.failed)?)
+    let mut writer = counted_pieces(alloc, piece, room, out);
+    let octets = octets_of(alloc, text, out);
+    push_written(out, &mut writer, octets.as_slice());
+    out.octets(writer.device.octets.as_slice());
+    out.labeled(", ", writer.failed);
+    out.text(" failed");
 }
 
 /// Writes the result of a case of this kind. `false` if this module has no such cases.
-pub(crate) fn answer(
-    alloc: Global,
-    kind: &str,
-    rest: &str,
-    out: &mut String,
-) -> anyhow::Result<bool> {
-    let written = match kind {
+pub(crate) fn answer(alloc: Global, kind: &str, rest: &str, out: &mut Answer) -> bool {
+    match kind {
         "lines" => lines(alloc, rest, out),
         "write-all" => written(alloc, rest, out),
-        _ => return Ok(false),
-    };
-    written?;
-    Ok(true)
+        _ => return false,
+    }
+    true
 }

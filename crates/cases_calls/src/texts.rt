@@ -1,61 +1,52 @@
 //! Values that may be absent, digits and octets as text.
 
-use cases::push_octets;
+use cases::Answer;
 use fp_q773::Tid;
-use std::fmt::{Debug, Display, Write};
+use std::fmt::Display;
 
 /// Writes a value, or this word for `None`.
-pub(crate) fn push_value<T: Display + Drop>(
-    out: &mut String,
-    value: Option<T>,
-    none: &str,
-) -> anyhow::Result<()> {
+pub(crate) fn push_or<T: Display + Drop>(out: &mut Answer, value: Option<T>, none: &str) {
     match value {
-        Some(value) => write!(out, "{value}")?,
-        None => out.push_str(none)?,
+        Some(value) => out.value(value),
+        None => out.text(none),
     }
-    Ok(())
 }
 
-/// Writes a value by its name, or this word for `None`.
-pub(crate) fn push_name<T: Debug + Drop>(
-    out: &mut String,
-    value: Option<T>,
-    none: &str,
-) -> anyhow::Result<()> {
-    match value {
-        Some(value) => write!(out, "{value:?}")?,
-        None => out.push_str(none)?,
+/// Writes octets, or `none`.
+pub(crate) fn push_octets_or_none(out: &mut Answer, octets: Option<&[u8]>) {
+    match octets {
+        Some(octets) => out.octets(octets),
+        None => out.text("none"),
     }
-    Ok(())
-}
-
-/// Writes a text.
-pub(crate) fn push_text(text: &str, out: &mut String) -> anyhow::Result<()> {
-    out.push_str(text)?;
-    Ok(())
 }
 
 /// Writes a transaction identifier, or `none`.
-pub(crate) fn push_tid(out: &mut String, tid: Option<Tid>) -> anyhow::Result<()> {
+pub(crate) fn push_tid(out: &mut Answer, tid: Option<Tid>) {
     match tid {
-        Some(tid) => push_octets(out, tid.as_slice()),
-        None => Ok(out.push_str("none")?),
+        Some(tid) => out.octets(tid.as_slice()),
+        None => out.text("none"),
     }
+}
+
+/// The hexadecimal digit of this value, in upper case; `?` for 16 and more.
+fn digit_of(value: u8) -> char {
+    char::from(match value {
+        0..=9 => b'0' + value,
+        10..=15 => b'A' + (value - 10),
+        _ => b'?',
+    })
 }
 
 /// Writes digits, each 0 to F.
-pub(crate) fn push_digits(out: &mut String, digits: &[u8]) -> anyhow::Result<()> {
+pub(crate) fn push_digits(out: &mut Answer, digits: &[u8]) {
     for digit in digits {
-        write!(out, "{digit:X}")?;
+        out.character(digit_of(*digit));
     }
-    Ok(())
 }
 
 /// Writes octets in upper case, and nothing for none.
-pub(crate) fn push_hexadecimal(out: &mut String, octets: &[u8]) -> anyhow::Result<()> {
-    for octet in octets {
-        write!(out, "{octet:02X}")?;
+pub(crate) fn push_hexadecimal(out: &mut Answer, octets: &[u8]) {
+    if !octets.is_empty() {
+        out.octets(octets);
     }
-    Ok(())
 }

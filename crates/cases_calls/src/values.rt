@@ -1,10 +1,9 @@
-//! Values from text.
+//! Values from text. A text that isn't valid is a fault of the answer.
 
-ghost use Rattle.std.specs.Prelude.{◌<◌, IfOk};
+ghost use Rattle.std.specs.Prelude.{◌<◌};
 
-use anyhow::bail;
 use bytes::Bytes;
-use cases::octets_of;
+use cases::{Answer, identifier_of, octets_of};
 use fp_apdu::Name;
 use fp_digits::{Cause, Digits, Moment, NatureOfAddress, Number};
 use fp_frames::Frame;
@@ -19,95 +18,125 @@ pub(crate) fn after_noon(milliseconds: u32) -> Moment {
     Moment::new(NOON + u64::from(milliseconds)).unwrap()
 }
 
-/// The value of a hexadecimal digit.
-pub(crate) fn hexadecimal(octet: u8) -> anyhow::Result<u8>
-    ensures { IfOk result (λ digit. digit < 16) }
+/// The value that a call gave. `None`, and a fault of the answer, if it gave an error.
+pub(crate) fn kept<T: Drop, E: Drop>(given: Result<T, E>, out: &mut Answer) -> Option<T> {
+    match given {
+        Ok(value) => Some(value),
+        Err(_) => {
+            out.fail("an error, or out of memory");
+            None
+        }
+    }
+}
+
+/// The value in an option. `None`, and this fault of the answer, if there is none.
+pub(crate) fn found<T: Drop>(value: Option<T>, fault: &str, out: &mut Answer) -> Option<T> {
+    if value.is_none() {
+        out.fail(fault);
+    }
+    value
+}
+
+/// The value of a hexadecimal digit in upper case; 0, and a fault, for another octet.
+pub(crate) fn hexadecimal(octet: u8, out: &mut Answer) -> u8
+    ensures { result < 16 }
 {
     match octet {
-        b'0'..=b'9' => Ok(octet - b'0'),
-        b'A'..=b'F' => Ok(octet - b'A' + 10),
-        _ => bail!("no hexadecimal digit"),
+        b'0'..=b'9' => octet - b'0',
+        b'A'..=b'F' => octet - b'A' + 10,
+        _ => {
+            out.fail("no hexadecimal digit");
+            0
+        }
     }
 }
 
 /// The digits in a hexadecimal text; `empty` means none.
-fn digits_of(text: &str) -> anyhow::Result<Digits> {
+fn digits_of(text: &str, out: &mut Answer) -> Digits {
     let mut digits = Digits::new();
     if text == "empty" {
-        return Ok(digits);
+        return digits;
     }
     for octet in text.as_bytes() {
-        let digit = hexadecimal(*octet)?;
+        let digit = hexadecimal(*octet, out);
         if digits.len() >= Digits::MOST {
-            bail!("too many digits");
+            out.fail("too many digits");
+            break;
         }
         digits.push(digit);
     }
-    Ok(digits)
+    digits
 }
 
 /// The number of this nature of address and these digits.
-pub(crate) fn number_of(nature: NatureOfAddress, text: &str) -> anyhow::Result<Number> {
-    let digits = digits_of(text)?;
-    Ok(Number { nature, digits })
+pub(crate) fn number_with(nature: NatureOfAddress, text: &str, out: &mut Answer) -> Number {
+    let digits = digits_of(text, out);
+    Number { nature, digits }
 }
 
 /// The national number of these digits.
-pub(crate) fn national_number_of(text: &str) -> anyhow::Result<Number> {
-    number_of(NatureOfAddress::NATIONAL, text)
+pub(crate) fn national_number_of(text: &str, out: &mut Answer) -> Number {
+    number_with(NatureOfAddress::NATIONAL, text, out)
 }
 
-/// The application context name of these octets.
-pub(crate) fn name_of(alloc: Global, text: &str) -> anyhow::Result<Name> {
-    let octets = octets_of(alloc, text)?;
-    match Name::new(octets.as_slice()) {
-        Some(name) => Ok(name),
-        None => bail!("no name"),
-    }
+/// The application context name of these octets. `None`, and a fault, if they are none.
+pub(crate) fn name_of(alloc: Global, text: &str, out: &mut Answer) -> Option<Name> {
+    let octets = octets_of(alloc, text, out);
+    found(
+        Name::new(octets.as_slice()),
+        "no application context name",
+        out,
+    )
 }
 
-/// The transaction identifier of these one to four octets.
-pub(crate) fn tid_of(alloc: Global, text: &str) -> anyhow::Result<Tid> {
-    let octets = octets_of(alloc, text)?;
+/// The transaction identifier of these one to four octets. 0, and a fault, for other octets.
+pub(crate) fn tid_of(alloc: Global, text: &str, out: &mut Answer) -> Tid {
+    let octets = octets_of(alloc, text, out);
     match Tid::new(octets.as_slice()) {
-        Some(tid) => Ok(tid),
-        None => bail!("{text} is no transaction identifier"),
+        Some(tid) => tid,
+        None => {
+            out.fail("no transaction identifier");
+            Tid::of_number(0)
+        }
     }
 }
 
-/// The cause of this name.
-pub(crate) fn cause_of(text: &str) -> anyhow::Result<Cause> {
+/// The cause of this name; another one, and a fault, for another text.
+pub(crate) fn cause_of(text: &str, out: &mut Answer) -> Cause {
     match text {
-        "NoRouteToDestination" => Ok(Cause::NoRouteToDestination),
-        "UserBusy" => Ok(Cause::UserBusy),
-        "NoAnswerFromUser" => Ok(Cause::NoAnswerFromUser),
-        "CallRejected" => Ok(Cause::CallRejected),
-        _ => bail!("{text} is no cause"),
+        "NoRouteToDestination" => Cause::NoRouteToDestination,
+        "UserBusy" => Cause::UserBusy,
+        "NoAnswerFromUser" => Cause::NoAnswerFromUser,
+        "CallRejected" => Cause::CallRejected,
+        _ => {
+            out.fail("no cause");
+            Cause::CallRejected
+        }
     }
 }
 
-/// Why the provider aborts a dialogue, by its name.
-pub(crate) fn abort_cause_of(text: &str) -> anyhow::Result<AbortCause> {
+/// Why the provider aborts a dialogue, by its name; another cause, and a fault, for another text.
+pub(crate) fn abort_cause_of(text: &str, out: &mut Answer) -> AbortCause {
     match text {
-        "UnrecognizedMessageType" => Ok(AbortCause::UnrecognizedMessageType),
-        "UnrecognizedTransactionIdentifier" => Ok(AbortCause::UnrecognizedTransactionIdentifier),
-        "BadlyFormattedTransactionPortion" => Ok(AbortCause::BadlyFormattedTransactionPortion),
-        "ResourceLimitation" => Ok(AbortCause::ResourceLimitation),
-        _ => bail!("{text} is no cause"),
+        "UnrecognizedMessageType" => AbortCause::UnrecognizedMessageType,
+        "UnrecognizedTransactionIdentifier" => AbortCause::UnrecognizedTransactionIdentifier,
+        "BadlyFormattedTransactionPortion" => AbortCause::BadlyFormattedTransactionPortion,
+        "ResourceLimitation" => AbortCause::ResourceLimitation,
+        _ => {
+            out.fail("no cause of an Abort");
+            AbortCause::ResourceLimitation
+        }
     }
 }
 
-/// The frame of the message of these octets.
-pub(crate) fn frame_of(alloc: Global, text: &str) -> anyhow::Result<Frame> {
-    let octets = octets_of(alloc, text)?;
-    let message = Bytes::copy_from_slice(alloc, octets.as_slice())?;
-    match Frame::new(message) {
-        Some(frame) => Ok(frame),
-        None => bail!("no frame"),
-    }
+/// The frame of the message of these octets. `None`, and a fault, if a frame can't hold it.
+pub(crate) fn frame_of(alloc: Global, text: &str, out: &mut Answer) -> Option<Frame> {
+    let octets = octets_of(alloc, text, out);
+    let message = kept(Bytes::copy_from_slice(alloc, octets.as_slice()), out)?;
+    found(Frame::new(message), "no frame", out)
 }
 
-/// The local transaction identifier of these eight hexadecimal digits.
-pub(crate) fn local_of(text: &str) -> anyhow::Result<u32> {
-    Ok(u32::from_str_radix(text, 16)?)
+/// The local transaction identifier of these eight hexadecimal digits; 0, and a fault, for another text.
+pub(crate) fn local_of(text: &str, out: &mut Answer) -> u32 {
+    identifier_of(text, out)
 }

@@ -9,10 +9,8 @@
 //! | `quit` | the command `quit` comes: `quit` |
 
 use crate::messages::frame_of;
-use crate::script::{Steps, play};
 use crate::texts::moment_after;
-use anyhow::bail;
-use cases::{first_word, push_octets};
+use cases::{Answer, Steps, first_word, number_of, play};
 use fp_entry::{Lookup, Prepared};
 use fp_linkstate::{ArrivalQueue, Reading};
 use fp_records::Table;
@@ -29,69 +27,71 @@ struct Coming<'x> {
 }
 
 /// Writes the octets of a message, after a comma if others came before.
-fn push_message(out: &mut String, message: &Prepared, is_first: bool) -> anyhow::Result<()> {
+fn push_message(out: &mut Answer, message: &Prepared, is_first: bool) {
     if !is_first {
-        out.push_str(", ")?;
+        out.text(", ");
     }
-    push_octets(out, message.arrival().frame.octets())
+    out.octets(message.arrival().frame.octets())
 }
 
 impl Coming<'_> {
     /// Prepares frames, and writes the messages.
-    fn prepare(&mut self, out: &mut String) -> anyhow::Result<()> {
+    fn prepare(&mut self, out: &mut Answer) {
         let mut reading = Reading {
             alloc: self.alloc,
             lookup: Some(Lookup::new(self.alloc, self.table)),
             contexts: &[],
-            moment: moment_after(0)?,
+            moment: moment_after(0),
         };
-        self.queue.prepare(&mut reading, &mut self.messages)?;
+        out.note(self.queue.prepare(&mut reading, &mut self.messages));
         let mut is_first = true;
         for message in self.messages.iter() {
-            push_message(out, message, is_first)?;
+            push_message(out, message, is_first);
             is_first = false;
         }
         if is_first {
-            out.push_str("none")?;
+            out.text("none");
         }
-        Ok(())
+    }
+
+    /// A frame comes.
+    fn feed(&mut self, message: &str, out: &mut Answer) {
+        if let Some(frame) = frame_of(self.alloc, message, out) {
+            out.note(self.queue.feed(frame));
+        }
     }
 
     /// Posts messages, and writes them.
-    fn post(&mut self, count: u32, out: &mut String) -> anyhow::Result<()> {
+    fn post(&mut self, count: u32, out: &mut Answer) {
         for index in 0..count {
             let Some(message) = self.messages.pop_front() else {
-                bail!("no message");
+                return out.fail("no message");
             };
-            push_message(out, &message, index == 0)?;
+            push_message(out, &message, index == 0);
         }
-        Ok(())
     }
 }
 
 impl Steps for Coming<'_> {
-    fn step(&mut self, step: &str, out: &mut String) -> anyhow::Result<()> {
+    fn step(&mut self, step: &str, out: &mut Answer) {
         let (verb, rest) = first_word(step);
         match verb {
             "prepare" => return self.prepare(out),
-            "post" => return self.post(rest.parse()?, out),
-            "feed" => self.queue.feed(frame_of(self.alloc, rest)?)?,
-            "back" => self.queue.take_back(&mut self.messages)?,
+            "post" => return self.post(number_of(rest, out), out),
+            "feed" => self.feed(rest, out),
+            "back" => out.note(self.queue.take_back(&mut self.messages)),
             "quit" => self.queue.quit(),
-            _ => bail!("no step: {verb}"),
+            _ => out.fail("no such step"),
         }
-        Ok(out.push_str(verb)?)
+        out.text(verb);
     }
 }
 
 /// Writes what the steps of a case answer.
-pub(crate) fn answer(
-    alloc: Global,
-    table: &Table,
-    script: &str,
-    out: &mut String,
-) -> anyhow::Result<()> {
-    let queue = ArrivalQueue::new(alloc)?;
+pub(crate) fn answer(alloc: Global, table: &Table, script: &str, out: &mut Answer) {
+    let Ok(queue) = ArrivalQueue::new(alloc) else {
+        return out.run_out();
+    };
     let messages = VecDeque::new(alloc);
     let mut coming = Coming {
         alloc,

@@ -52,15 +52,12 @@ mod turns;
 use crate::held::{Named, abandon, abandon_all, serve, show};
 use crate::messages::{frame_of, prepared};
 use crate::numbering::{LAST_TAG, LINKS, Numbering, numbering_of};
-use crate::script::{Steps, play};
-use crate::texts::{moment_after, push_text};
-use anyhow::bail;
-use cases::first_word;
+use crate::texts::moment_after;
+use cases::{Answer, Steps, first_word, number_of, play};
 use fp_book::{Book, Ticked};
 use fp_entry::Prepared;
 use fp_records::Table;
 use std::alloc::Global;
-use std::fmt::Write;
 use texts::{push_posted, push_totals};
 
 /// The books of a case, and its turns and parcels that are out. It must be spent.
@@ -86,64 +83,59 @@ struct Scene<'a> {
 }
 
 /// Posts a message, and writes what becomes of it.
-fn post(scene: Scene, book: &mut Book, message: &str, out: &mut String) -> anyhow::Result<()> {
+fn post(scene: Scene, book: &mut Book, message: &str, out: &mut Answer) {
     let Scene { alloc, table, now } = scene;
-    let came = prepared(alloc, table, moment_after(now)?, message)?;
-    push_posted(out, book.post(alloc, came))
+    if let Some(came) = prepared(alloc, table, moment_after(now), message, out) {
+        push_posted(out, book.post(alloc, came));
+    }
 }
 
 /// Posts a message that wasn't read, and writes what becomes of it.
-fn lose(scene: Scene, book: &mut Book, message: &str, out: &mut String) -> anyhow::Result<()> {
-    let frame = frame_of(scene.alloc, message)?;
-    let came = Prepared::lost(frame, moment_after(scene.now)?);
-    push_posted(out, book.post(scene.alloc, came))
+fn lose(scene: Scene, book: &mut Book, message: &str, out: &mut Answer) {
+    if let Some(frame) = frame_of(scene.alloc, message, out) {
+        let came = Prepared::lost(frame, moment_after(scene.now));
+        push_posted(out, book.post(scene.alloc, came));
+    }
 }
 
 /// Time goes by, and writes how many dialogues are given a Clock, and how many are left.
-fn tick(scene: Scene, book: &mut Book, out: &mut String) -> anyhow::Result<()> {
-    let Ticked { added, wanting } = book.tick(moment_after(scene.now)?);
-    write!(out, "{added} {wanting}")?;
-    Ok(())
+fn tick(scene: Scene, book: &mut Book, out: &mut Answer) {
+    let Ticked { added, wanting } = book.tick(moment_after(scene.now));
+    out.value(added);
+    out.labeled(" ", wanting);
 }
 
 /// Posts a message, which is accepted, and takes and gives turns until there is none, COUNT times.
-fn rounds(scene: Scene, book: &mut Book, text: &str, out: &mut String) -> anyhow::Result<()> {
+fn rounds(scene: Scene, book: &mut Book, text: &str, out: &mut Answer) {
     let Scene { alloc, table, now } = scene;
     let (count, message) = first_word(text);
-    let count: u32 = count.parse()?;
-    let served = loops::rounds(alloc, table, book, now, count, message)?;
-    loops::push_served(out, served)
+    let count: u32 = number_of(count, out);
+    loops::rounds(alloc, table, book, now, count, message, out);
 }
 
 /// Posts a message, takes and gives turns and sends parcels until there is none, COUNT times.
-fn calls(scene: Scene, book: &mut Book, text: &str, out: &mut String) -> anyhow::Result<()> {
+fn calls(scene: Scene, book: &mut Book, text: &str, out: &mut Answer) {
     let Scene { alloc, table, now } = scene;
     let (count, message) = first_word(text);
-    let count: u32 = count.parse()?;
-    push_posted(out, loops::calls(alloc, table, book, now, count, message)?)
+    let count: u32 = number_of(count, out);
+    loops::calls(alloc, table, book, now, count, message, out);
 }
 
 /// Takes and gives turns until there is none.
-fn serve_all(alloc: Global, book: &mut Book, out: &mut String) -> anyhow::Result<()> {
+fn serve_all(alloc: Global, book: &mut Book, out: &mut Answer) {
     let mut served = loops::NONE;
-    loops::serve_all(alloc, book, &mut served)?;
+    loops::serve_all(alloc, book, &mut served, out);
     loops::push_served(out, served)
 }
 
 /// The link goes down.
-fn down(book: &mut Book, out: &mut String) -> anyhow::Result<()> {
+fn down(book: &mut Book, out: &mut Answer) {
     book.down();
-    push_text(out, "down")
+    out.text("down")
 }
 
 /// A step about a book, without a turn or a parcel.
-fn own_step(
-    scene: Scene,
-    book: &mut Book,
-    verb: &str,
-    rest: &str,
-    out: &mut String,
-) -> anyhow::Result<()> {
+fn own_step(scene: Scene, book: &mut Book, verb: &str, rest: &str, out: &mut Answer) {
     match verb {
         "post" => post(scene, book, rest, out),
         "lost" => lose(scene, book, rest, out),
@@ -157,49 +149,49 @@ fn own_step(
         "lines" => lines::all(scene.alloc, book, rest, out),
         "drain" => lines::ends(scene.alloc, book, rest, out),
         "down" => down(book, out),
-        "is-down" => push_text(out, if book.is_down() { "yes" } else { "no" }),
-        _ => bail!("no step: {verb}"),
+        "is-down" => out.either(book.is_down(), "yes", "no"),
+        _ => out.fail("no such step"),
     }
 }
 
 impl Case<'_> {
     /// One more book, which is numbered so. The steps after it are about it.
-    fn open(&mut self, numbering: Numbering) -> anyhow::Result<()> {
+    fn open(&mut self, numbering: Numbering, out: &mut Answer) {
         let Numbering { link, tag } = numbering;
         if link >= LINKS || tag > LAST_TAG {
-            bail!("no link, or no tag");
+            return out.fail("no link, or no tag");
         }
         self.place = self.books.len();
-        self.books.push(Book::with_tag(self.alloc, link, tag)?)?;
-        Ok(())
+        match Book::with_tag(self.alloc, link, tag) {
+            Ok(book) => out.push(&mut self.books, book),
+            Err(_) => out.run_out(),
+        }
     }
 
     /// One more book, of the link and the tag of a text.
-    fn open_of(&mut self, text: &str, out: &mut String) -> anyhow::Result<()> {
-        self.open(numbering_of(text)?)?;
-        write!(out, "link {text}")?;
-        Ok(())
+    fn open_of(&mut self, text: &str, out: &mut Answer) {
+        let numbering = numbering_of(text, out);
+        self.open(numbering, out);
+        out.labeled("link ", text);
     }
 
     /// Goes to a book.
-    fn go(&mut self, number: &str, out: &mut String) -> anyhow::Result<()> {
-        let number: usize = number.parse()?;
+    fn go(&mut self, number: &str, out: &mut Answer) {
+        let number: usize = number_of(number, out);
         self.place = number.saturating_sub(1);
-        write!(out, "{number}")?;
-        Ok(())
+        out.value(number);
     }
 
     /// It is this number of milliseconds after noon now.
-    fn wait(&mut self, milliseconds: &str, out: &mut String) -> anyhow::Result<()> {
-        self.now = milliseconds.parse()?;
-        write!(out, "{}", self.now)?;
-        Ok(())
+    fn wait(&mut self, milliseconds: &str, out: &mut Answer) {
+        self.now = number_of(milliseconds, out);
+        out.value(self.now);
     }
 
     /// A step about a turn or a parcel of a book.
-    fn held_step(&mut self, verb: &str, name: &str, out: &mut String) -> anyhow::Result<()> {
+    fn held_step(&mut self, verb: &str, name: &str, out: &mut Answer) {
         let Some(book) = self.books.get_mut(self.place) else {
-            bail!("no book");
+            return out.fail("no book");
         };
         let (turns, parcels) = (&mut self.turns, &mut self.parcels);
         match verb {
@@ -213,7 +205,7 @@ impl Case<'_> {
     }
 
     /// A step about a book.
-    fn book_step(&mut self, verb: &str, rest: &str, out: &mut String) -> anyhow::Result<()> {
+    fn book_step(&mut self, verb: &str, rest: &str, out: &mut Answer) {
         let scene = Scene {
             alloc: self.alloc,
             table: self.table,
@@ -221,30 +213,29 @@ impl Case<'_> {
         };
         match self.books.get_mut(self.place) {
             Some(book) => own_step(scene, book, verb, rest, out),
-            None => bail!("no book"),
+            None => out.fail("no book"),
         }
     }
 
     /// Posts a message COUNT times, each a millisecond later.
-    fn posts(&mut self, text: &str, out: &mut String) -> anyhow::Result<()> {
+    fn posts(&mut self, text: &str, out: &mut Answer) {
         let (count, message) = first_word(text);
-        let count: u32 = count.parse()?;
+        let count: u32 = number_of(count, out);
         let (alloc, table, now) = (self.alloc, self.table, self.now);
         let Some(book) = self.books.get_mut(self.place) else {
-            bail!("no book");
+            return out.fail("no book");
         };
-        loops::posts(alloc, table, book, now, count, message, out)?;
+        loops::posts(alloc, table, book, now, count, message, out);
         self.now = now.saturating_add(count);
-        Ok(())
     }
 
     /// Abandons a turn or a parcel.
-    fn give_up(&mut self, text: &str, out: &mut String) -> anyhow::Result<()> {
+    fn give_up(&mut self, text: &str, out: &mut Answer) {
         let (what, name) = first_word(text);
         match what {
             "turn" => abandon(&mut self.turns, name, out),
             "parcel" => abandon(&mut self.parcels, name, out),
-            _ => bail!("no turn and no parcel: {what}"),
+            _ => out.fail("no turn and no parcel"),
         }
     }
 
@@ -265,7 +256,7 @@ impl Case<'_> {
 }
 
 impl Steps for Case<'_> {
-    fn step(&mut self, step: &str, out: &mut String) -> anyhow::Result<()> {
+    fn step(&mut self, step: &str, out: &mut Answer) {
         let (verb, rest) = first_word(step);
         match verb {
             "at" => self.wait(rest, out),
@@ -284,12 +275,7 @@ impl Steps for Case<'_> {
 }
 
 /// Writes what the steps of a case answer.
-pub(crate) fn answer(
-    alloc: Global,
-    table: &Table,
-    script: &str,
-    out: &mut String,
-) -> anyhow::Result<()> {
+pub(crate) fn answer(alloc: Global, table: &Table, script: &str, out: &mut Answer) {
     let mut case = Case {
         alloc,
         table,
@@ -299,10 +285,7 @@ pub(crate) fn answer(
         turns: Vec::new(alloc),
         parcels: Vec::new(alloc),
     };
-    let answered = match case.open(Numbering { link: 0, tag: 0 }) {
-        Ok(()) => play(&mut case, script, out),
-        Err(error) => Err(error),
-    };
+    case.open(Numbering { link: 0, tag: 0 }, out);
+    play(&mut case, script, out);
     case.abandon();
-    answered
 }

@@ -10,177 +10,205 @@
 //! | `times TIME ..` | the numbers of the buckets that aren't 0, each by its place, and the sum |
 //! | `highest NUMBER ..` | the greatest of these numbers |
 
+use crate::lines::ended_line;
 use crate::texts::peer_of;
-use anyhow::bail;
-use cases::{first_word, octets_of};
+use cases::{Answer, first_word, number_of, octets_of};
 use fp_book::Line;
 use fp_counters::{BUCKETS, Counter, Counters, Highest, Histogram, frame_counts};
 use fp_digits::Cause;
 use fp_linkstate::Why;
 use fp_q773::{AbortCause, InvokeProblem, Problem};
-use fp_replay::read_line;
+use fp_replay::{LineFault, read_line};
 use fp_reply::{abort_frame, bytes_of};
 use fp_service::{AbortPortion, Component, Components, Instruction, Request};
-use std::alloc::Global;
-use std::fmt::Write;
+use std::alloc::{AllocError, Global};
 
 /// The local transaction identifier of the dialogues.
 const LOCAL: u32 = 1;
 
 /// Writes the counters that aren't 0.
-fn push_numbers(out: &mut String, counters: &Counters) -> anyhow::Result<()> {
+fn push_numbers(out: &mut Answer, counters: &Counters) {
     for counter in &Counter::all() {
         let number = counters.number(*counter);
         if number > 0 {
-            write!(out, "{counter:?} {number}, ")?;
+            out.shown(counter);
+            out.labeled(" ", number);
+            out.text(", ");
         }
     }
-    out.push_str("no other")?;
-    Ok(())
+    out.text("no other");
 }
 
-/// The counters of the step of a log line.
-fn counters_of(alloc: Global, text: &str) -> anyhow::Result<Counters> {
-    let mut octets = Vec::from_slice(alloc, text.as_bytes())?;
-    octets.push(b'\n')?;
-    let mut counters = Counters::new();
-    match read_line(alloc, octets.as_slice())? {
-        Line::Step { step, .. } => counters.count_step(&step),
-        Line::Head { .. } => {}
+/// Counts the step of a log line, which ends in a line feed.
+fn count_step(alloc: Global, line: &[u8], counters: &mut Counters, out: &mut Answer) {
+    match read_line(alloc, line) {
+        Ok(Line::Step { step, .. }) => counters.count_step(&step),
+        Ok(Line::Head { .. }) => {}
+        Err(LineFault::Memory) => out.run_out(),
+        Err(_) => out.fail("no line"),
     }
-    Ok(counters)
+}
+
+/// Counts the step of a log line.
+fn count_line(alloc: Global, text: &str, counters: &mut Counters, out: &mut Answer) {
+    match ended_line(alloc, text) {
+        Ok(line) => count_step(alloc, line.as_slice(), counters, out),
+        Err(_) => out.run_out(),
+    }
 }
 
 /// The counters after the steps of these lines.
-fn counted(alloc: Global, text: &str, out: &mut String) -> anyhow::Result<()> {
+fn counted(alloc: Global, text: &str, out: &mut Answer) {
     let mut counters = Counters::new();
     for line in text.split("; ") {
-        counters.merge(&counters_of(alloc, line)?);
+        let mut step = Counters::new();
+        count_line(alloc, line, &mut step, out);
+        counters.merge(&step);
     }
-    push_numbers(out, &counters)
+    push_numbers(out, &counters);
 }
 
-/// The instruction or the problem of a component.
-fn component_of(word: &str) -> anyhow::Result<Component> {
-    let instruction = match word {
+/// The instruction of a component, if it is an Invoke. Any other word is a fault of the answer.
+fn instruction_of(word: &str, out: &mut Answer) -> Instruction {
+    match word {
         "release-3" => Instruction::ReleaseCall(Cause::NoRouteToDestination),
         "release-17" => Instruction::ReleaseCall(Cause::UserBusy),
         "report" => Instruction::RequestReportBcsmEvent,
         "continue" => Instruction::Continue,
         "test" => Instruction::ActivityTest,
-        "reject" => {
-            return Ok(Component::Reject {
-                identifier: None,
-                problem: Problem::Invoke(InvokeProblem::UnrecognizedOperation),
-            });
+        _ => {
+            out.fail("no such component");
+            Instruction::Continue
         }
-        _ => bail!("no component: {word}"),
-    };
-    Ok(Component::Invoke {
+    }
+}
+
+/// A component: an Invoke, or a Reject.
+fn component_of(word: &str, out: &mut Answer) -> Component {
+    if word == "reject" {
+        return Component::Reject {
+            identifier: None,
+            problem: Problem::Invoke(InvokeProblem::UnrecognizedOperation),
+        };
+    }
+    Component::Invoke {
         identifier: 1,
-        instruction,
-    })
+        instruction: instruction_of(word, out),
+    }
 }
 
 /// The components of a message: none, one, or one and an Invoke of ActivityTest.
-fn components_of(words: &str) -> anyhow::Result<Components> {
+fn components_of(words: &str, out: &mut Answer) -> Components {
     let (first, second) = first_word(words);
     if first.is_empty() {
-        return Ok(Components::none());
+        return Components::none();
     }
-    let component = component_of(first)?;
-    if second == "test" {
-        let test = Component::Invoke {
-            identifier: 2,
-            instruction: Instruction::ActivityTest,
-        };
-        return Ok(Components::two(component, test));
+    let component = component_of(first, out);
+    if second != "test" {
+        return Components::one(component);
     }
-    Ok(Components::one(component))
+    let test = Component::Invoke {
+        identifier: 2,
+        instruction: Instruction::ActivityTest,
+    };
+    Components::two(component, test)
 }
 
 /// Writes the counters that aren't 0 after a frame was sent.
-fn push_sent(out: &mut String, frame: &[u8]) -> anyhow::Result<()> {
+fn push_sent(out: &mut Answer, frame: &[u8]) {
     let mut counters = Counters::new();
     counters.count_frame(&frame_counts(frame));
     push_numbers(out, &counters)
 }
 
+/// Writes the counters after a request was sent.
+fn push_request(alloc: Global, request: &Request, out: &mut Answer) {
+    let peer = peer_of("2a", out);
+    match bytes_of(alloc, request, LOCAL, &peer) {
+        Ok(frame) => push_sent(out, frame.as_slice()),
+        Err(_) => out.run_out(),
+    }
+}
+
 /// The counters after a message of the service was sent.
-fn sent(alloc: Global, words: &str, out: &mut String) -> anyhow::Result<()> {
+fn sent(alloc: Global, words: &str, out: &mut Answer) {
     let (kind, rest) = first_word(words);
     let request = match kind {
         "continue" => Request::Continue {
             acceptance: None,
-            components: components_of(rest)?,
+            components: components_of(rest, out),
         },
         "end" => Request::End {
             acceptance: None,
-            components: components_of(rest)?,
+            components: components_of(rest, out),
         },
         "abort" => Request::Abort(AbortPortion::Absent),
-        _ => bail!("no message: {kind}"),
+        _ => return out.fail("no such message"),
     };
-    let frame = bytes_of(alloc, &request, LOCAL, &peer_of("2a")?)?;
-    push_sent(out, frame.as_slice())
+    push_request(alloc, &request, out);
 }
 
 /// The counters after an Abort of the provider was sent.
-fn aborted(cause: &str, out: &mut String) -> anyhow::Result<()> {
-    let Some(cause) = AbortCause::from_code(cause.parse()?) else {
-        bail!("no cause");
-    };
-    push_sent(out, abort_frame(peer_of("0000002a")?, cause).as_slice())
+fn aborted(cause: &str, out: &mut Answer) {
+    let peer = peer_of("0000002a", out);
+    match AbortCause::from_code(number_of(cause, out)) {
+        Some(cause) => push_sent(out, abort_frame(peer, cause).as_slice()),
+        None => out.fail("no such cause"),
+    }
+}
+
+/// The frame of a message.
+fn frame_of(alloc: Global, message: &[u8]) -> Result<Vec<u8>, AllocError> {
+    let mut frame = Vec::from_slice(alloc, &[0, 0, 0, 0])?;
+    frame.extend_from_slice(message)?;
+    Ok(frame)
 }
 
 /// The counters after a frame with a message of these octets was sent.
-fn octets_sent(alloc: Global, text: &str, out: &mut String) -> anyhow::Result<()> {
-    let mut frame = Vec::from_slice(alloc, &[0, 0, 0, 0])?;
-    frame.extend_from_slice(octets_of(alloc, text)?.as_slice())?;
-    push_sent(out, frame.as_slice())
+fn octets_sent(alloc: Global, text: &str, out: &mut Answer) {
+    let message = octets_of(alloc, text, out);
+    match frame_of(alloc, message.as_slice()) {
+        Ok(frame) => push_sent(out, frame.as_slice()),
+        Err(_) => out.run_out(),
+    }
 }
 
 /// The counters after the peer closed the connection.
-fn ended(out: &mut String) -> anyhow::Result<()> {
+fn ended(out: &mut Answer) {
     let mut counters = Counters::new();
     counters.count_end(Why::PeerClosed);
     push_numbers(out, &counters)
 }
 
 /// The buckets of these times.
-fn times(words: &str, out: &mut String) -> anyhow::Result<()> {
+fn times(words: &str, out: &mut Answer) {
     let mut histogram = Histogram::new();
     for word in words.split(' ') {
-        histogram.observe(word.parse()?);
+        histogram.observe(number_of(word, out));
     }
     for bucket in 0..BUCKETS {
         let number = histogram.number(bucket);
         if number > 0 {
-            write!(out, "{bucket}: {number}, ")?;
+            out.value(bucket);
+            out.labeled(": ", number);
+            out.text(", ");
         }
     }
-    write!(out, "sum {}", histogram.sum())?;
-    Ok(())
+    out.labeled("sum ", histogram.sum());
 }
 
 /// The greatest of these numbers.
-fn highest(words: &str, out: &mut String) -> anyhow::Result<()> {
+fn highest(words: &str, out: &mut Answer) {
     let mut highest = Highest::new();
     for word in words.split(' ') {
-        highest.note(word.parse()?);
+        highest.note(number_of(word, out));
     }
-    write!(out, "{}", highest.number())?;
-    Ok(())
+    out.value(highest.number());
 }
 
 /// Writes what a case of this module gives, and says whether it has one of this kind.
-pub(crate) fn answer(
-    alloc: Global,
-    kind: &str,
-    rest: &str,
-    out: &mut String,
-) -> anyhow::Result<bool> {
-    let written = match kind {
+pub(crate) fn answer(alloc: Global, kind: &str, rest: &str, out: &mut Answer) -> bool {
+    match kind {
         "counted" => counted(alloc, rest, out),
         "sent" => sent(alloc, rest, out),
         "aborted" => aborted(rest, out),
@@ -188,8 +216,7 @@ pub(crate) fn answer(
         "ended" => ended(out),
         "times" => times(rest, out),
         "highest" => highest(rest, out),
-        _ => return Ok(false),
-    };
-    written?;
-    Ok(true)
+        _ => return false,
+    }
+    true
 }

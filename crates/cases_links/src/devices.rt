@@ -1,6 +1,6 @@
 //! Readers and writers that do what a case says.
 
-use cases::{first_word, octets_of};
+use cases::first_word;
 use std::alloc::Global;
 use std::cell::Cell;
 use std::io;
@@ -27,7 +27,7 @@ impl Read for Reads<'_> {
         if word == "interrupted" {
             return Err(io::Error::from(ErrorKind::Interrupted));
         }
-        let Ok(octets) = octets_of(self.alloc, word) else {
+        let Ok(octets) = hex::decode(self.alloc, word) else {
             return Err(io::Error::from(ErrorKind::Other));
         };
         let mut octets = octets.as_slice();
@@ -90,7 +90,7 @@ impl Read for Waits<'_> {
         let (word, rest) = first_word(self.words);
         let (wanted, rest) = first_word(rest);
         self.words = rest;
-        let (Ok(octets), Ok(wanted)) = (octets_of(self.alloc, word), wanted.parse()) else {
+        let (Ok(octets), Ok(wanted)) = (hex::decode(self.alloc, word), wanted.parse()) else {
             return Err(io::Error::from(ErrorKind::Other));
         };
         self.wanted = wanted;

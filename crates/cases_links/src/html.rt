@@ -13,86 +13,89 @@
 //! call came in 200 seconds; in `many` 1,234 come each second, and in the others five. In `ended` the link has just gone
 //! down. In `two` link 3 is under load, and link 5 has a gap.
 
-use cases::first_word;
+use cases::{Answer, first_word, number_of};
 use fp_book::{Book, Outbox};
 use fp_counters::{Counter, Counters, Histogram};
 use fp_metrics::{Gauges, LinkNumbers};
 use fp_page::{History, LinkView, PageNumbers, RunHistory, Span, escaped, page_text, troubles_of};
-use std::alloc::Global;
-use std::fmt::Write;
+use std::alloc::{AllocError, Global};
 
 /// The events of the network of a node that is alone.
 const GONE: [&str; 1] = ["2024-05-06T11:59:57.000Z connection 1 over: peer-closed"];
 
 /// A text, escaped.
-fn escapes(alloc: Global, text: &str, out: &mut String) -> anyhow::Result<()> {
-    let text = escaped(alloc, text)?;
-    out.push_str(text.as_str())?;
-    Ok(())
+fn escapes(alloc: Global, text: &str, out: &mut Answer) {
+    match escaped(alloc, text) {
+        Ok(text) => out.text(text.as_str()),
+        Err(_) => out.run_out(),
+    }
 }
 
 /// The numbers of a span, from the current period to the oldest one that is kept, and one more.
-fn numbers(span: &Span, out: &mut String) -> anyhow::Result<()> {
+fn numbers(span: &Span, out: &mut Answer) {
     for before in 0..span.most() {
-        write!(out, "{} ", span.number(before))?;
+        out.value(span.number(before));
+        out.text(" ");
     }
     let oldest = span.number(span.most());
     let gone = span.number(span.most().saturating_add(1));
-    write!(out, "{oldest} {gone}")?;
-    Ok(())
+    out.value(oldest);
+    out.labeled(" ", gone);
 }
 
 /// The numbers of a span after notes.
-fn span(alloc: Global, words: &str, out: &mut String) -> anyhow::Result<()> {
+fn span(alloc: Global, words: &str, out: &mut Answer) {
     let (width, rest) = first_word(words);
     let (most, notes) = first_word(rest);
-    let width: u64 = width.parse()?;
+    let width: u64 = number_of(width, out);
     if width == 0 {
-        anyhow::bail!("no width");
+        return out.fail("no width");
     }
-    let mut span = Span::new(alloc, width, most.parse()?)?;
+    let most = number_of(most, out);
+    let Ok(mut span) = Span::new(alloc, width, most) else {
+        return out.run_out();
+    };
     for word in notes.split(' ') {
         if let Some((time, total)) = word.split_once(':') {
-            span.note(time.parse()?, total.parse()?);
+            span.note(number_of(time, out), number_of(total, out));
         }
     }
     numbers(&span, out)
 }
 
-/// A history in which this number of calls came each second, for so long.
-fn steady(alloc: Global, seconds: u64, rate: u64) -> anyhow::Result<History> {
-    let mut history = History::new(alloc)?;
+/// Notes this number of calls each second, for so long.
+fn note_steady(history: &mut History, seconds: u64, rate: u64) {
     for second in 0..seconds {
         let total = second.saturating_add(1).saturating_mul(rate);
         history.note(second.saturating_mul(1_000), total);
     }
-    Ok(history)
 }
 
-/// The history of a link in a state.
-fn history_of(alloc: Global, state: &str) -> anyhow::Result<History> {
+/// Notes the calls of a link in a state.
+fn note_state(history: &mut History, state: &str) {
     match state {
-        "rest" => Ok(History::new(alloc)?),
+        "rest" => {}
         "down" => {
-            let mut history = History::new(alloc)?;
             history.note(70_000, 1);
             history.note(199_000, 1);
-            Ok(history)
         }
-        "many" => steady(alloc, 200, 1_234),
-        _ => steady(alloc, 200, 5),
+        "many" => note_steady(history, 200, 1_234),
+        _ => note_steady(history, 200, 5),
     }
 }
 
 /// The numbers of a steady history.
-fn history(alloc: Global, words: &str, out: &mut String) -> anyhow::Result<()> {
+fn history(alloc: Global, words: &str, out: &mut Answer) {
     let (seconds, rate) = first_word(words);
-    let history = steady(alloc, seconds.parse()?, rate.parse()?)?;
-    numbers(history.minute(), out)?;
-    out.push_str("; ")?;
-    numbers(history.hour(), out)?;
-    out.push_str("; ")?;
-    numbers(history.day(), out)
+    let Ok(mut history) = History::new(alloc) else {
+        return out.run_out();
+    };
+    note_steady(&mut history, number_of(seconds, out), number_of(rate, out));
+    numbers(history.minute(), out);
+    out.text("; ");
+    numbers(history.hour(), out);
+    out.text("; ");
+    numbers(history.day(), out);
 }
 
 /// The counters of a link in a state.
@@ -176,30 +179,41 @@ fn view<'a>(
     }
 }
 
-/// The page, the troubles on it, or whether it has a text.
-fn write_page(
-    alloc: Global,
-    kind: &str,
-    page: &PageNumbers<'_>,
-    wanted: &str,
-    out: &mut String,
-) -> anyhow::Result<()> {
-    if kind == "troubles" {
-        let troubles = troubles_of(alloc, page)?;
-        write!(out, "{}", troubles.len())?;
-        for trouble in troubles.as_slice() {
-            write!(out, " {trouble:?}")?;
-        }
-        return Ok(());
+/// Writes the troubles on a page.
+fn push_troubles(alloc: Global, page: &PageNumbers<'_>, out: &mut Answer) {
+    let Ok(troubles) = troubles_of(alloc, page) else {
+        return out.run_out();
+    };
+    out.value(troubles.len());
+    for trouble in troubles.as_slice() {
+        out.text(" ");
+        out.shown(trouble);
     }
-    let text = page_text(alloc, page)?.as_str().replace(alloc, "\n", "|")?;
-    if kind == "says" {
-        let says = text.as_str().contains(wanted);
-        out.push_str(if says { "yes" } else { "no" })?;
-        return Ok(());
+}
+
+/// The text of a page, with a bar for each line feed.
+fn text_of(alloc: Global, page: &PageNumbers<'_>) -> Result<String, AllocError> {
+    page_text(alloc, page)?.as_str().replace(alloc, "\n", "|")
+}
+
+/// Writes a page, or, if a text is wanted, whether it has this text.
+fn push_page(alloc: Global, page: &PageNumbers<'_>, wanted: Option<&str>, out: &mut Answer) {
+    let Ok(text) = text_of(alloc, page) else {
+        return out.run_out();
+    };
+    match wanted {
+        Some(wanted) => out.either(text.as_str().contains(wanted), "yes", "no"),
+        None => out.text(text.as_str()),
     }
-    out.push_str(text.as_str())?;
-    Ok(())
+}
+
+/// Writes the page, the troubles on it, or whether it has a text.
+fn write_page(alloc: Global, kind: &str, page: &PageNumbers<'_>, wanted: &str, out: &mut Answer) {
+    match kind {
+        "troubles" => push_troubles(alloc, page, out),
+        "says" => push_page(alloc, page, Some(wanted), out),
+        _ => push_page(alloc, page, None, out),
+    }
 }
 
 /// A link of this number in a state.
@@ -217,40 +231,43 @@ fn link_of<'a>(link: u8, state: &str, peer: &'a str, calls: &'a History) -> Link
     }
 }
 
-/// A case about the page in a state.
-fn page(alloc: Global, kind: &str, words: &str, out: &mut String) -> anyhow::Result<()> {
+/// A case about the page in a state, of links with this history.
+fn push_state(alloc: Global, kind: &str, words: &str, history: &History, out: &mut Answer) {
     let (state, rest) = first_word(words);
     let (peer, event) = first_word(if kind == "says" { "" } else { rest });
-    let history = history_of(alloc, state)?;
     let runs = RunHistory {
-        calls: &history,
-        answers: &history,
-        aborts: &history,
+        calls: history,
+        answers: history,
+        aborts: history,
     };
     let links = [
-        link_of(3, state, peer, &history),
-        link_of(5, "gap", peer, &history),
+        link_of(3, state, peer, history),
+        link_of(5, "gap", peer, history),
     ];
     let events = [event];
     let shown = if state == "two" { 2 } else { 1 };
     let page = view(state, &links[..shown], runs, &events);
-    write_page(alloc, kind, &page, rest, out)
+    write_page(alloc, kind, &page, rest, out);
+}
+
+/// A case about the page in a state.
+fn page(alloc: Global, kind: &str, words: &str, out: &mut Answer) {
+    let (state, _) = first_word(words);
+    let Ok(mut history) = History::new(alloc) else {
+        return out.run_out();
+    };
+    note_state(&mut history, state);
+    push_state(alloc, kind, words, &history, out);
 }
 
 /// Writes the result of a case of this kind. `false`: this module has none of the kind.
-pub(crate) fn answer(
-    alloc: Global,
-    kind: &str,
-    rest: &str,
-    out: &mut String,
-) -> anyhow::Result<bool> {
-    let written = match kind {
+pub(crate) fn answer(alloc: Global, kind: &str, rest: &str, out: &mut Answer) -> bool {
+    match kind {
         "escaped" => escapes(alloc, rest, out),
         "span" => span(alloc, rest, out),
         "history" => history(alloc, rest, out),
         "troubles" | "html" | "says" => page(alloc, kind, rest, out),
-        _ => return Ok(false),
-    };
-    written?;
-    Ok(true)
+        _ => return false,
+    }
+    true
 }

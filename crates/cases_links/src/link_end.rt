@@ -9,11 +9,8 @@
 //!
 //! Each answers the state, and what is to be done. `left AT` answers how much time is left.
 
-use crate::script::{Steps, play};
-use anyhow::bail;
-use cases::first_word;
+use cases::{Answer, Steps, first_word, number_of, play};
 use fp_linkstate::{Action, LinkEnd, LinkEvent, Why};
-use std::fmt::Write;
 
 /// The end of a link in a case.
 #[derive(Drop)]
@@ -22,14 +19,20 @@ struct Ending {
 }
 
 /// The event of a step.
-fn event_of(verb: &str, rest: &str) -> anyhow::Result<LinkEvent> {
-    Ok(match verb {
+fn event_of(verb: &str, rest: &str, out: &mut Answer) -> LinkEvent {
+    match verb {
         "failed" => LinkEvent::CallFailed {
             why: Why::WriteFault,
         },
-        "input" => LinkEvent::EndOfInput { at: rest.parse()? },
-        "quit" => LinkEvent::Quit { at: rest.parse()? },
-        "clock" => LinkEvent::Clock { at: rest.parse()? },
+        "input" => LinkEvent::EndOfInput {
+            at: number_of(rest, out),
+        },
+        "quit" => LinkEvent::Quit {
+            at: number_of(rest, out),
+        },
+        "clock" => LinkEvent::Clock {
+            at: number_of(rest, out),
+        },
         "loop" => LinkEvent::LoopFault {
             why: Why::BadFrameLength,
         },
@@ -37,8 +40,11 @@ fn event_of(verb: &str, rest: &str) -> anyhow::Result<LinkEvent> {
         "entries" => LinkEvent::TooManyEntries,
         "quiet" => LinkEvent::Quiet,
         "closed" => LinkEvent::PeerClosed,
-        _ => bail!("no step: {verb}"),
-    })
+        _ => {
+            out.fail("no such step");
+            LinkEvent::Quiet
+        }
+    }
 }
 
 /// The name of a state.
@@ -52,37 +58,37 @@ fn name_of(end: LinkEnd) -> &'static str {
 }
 
 /// Writes what is to be done, if there is something.
-fn push_action(out: &mut String, action: Action) -> anyhow::Result<()> {
+fn push_action(out: &mut Answer, action: Action) {
     match action {
-        Action::Nothing => Ok(()),
-        Action::EndSending { why } => Ok(write!(out, ", end sending: {why}")?),
-        Action::End { why } => Ok(write!(out, ", end: {why}")?),
-        Action::Close => Ok(out.push_str(", close")?),
+        Action::Nothing => {}
+        Action::EndSending { why } => out.labeled(", end sending: ", why),
+        Action::End { why } => out.labeled(", end: ", why),
+        Action::Close => out.text(", close"),
     }
 }
 
 /// Writes how much time is left at this one.
-fn push_left(out: &mut String, end: LinkEnd, at: &str) -> anyhow::Result<()> {
-    match end.time_left(at.parse()?) {
-        Some(left) => Ok(write!(out, "{left}")?),
-        None => Ok(out.push_str("none")?),
+fn push_left(out: &mut Answer, end: LinkEnd, at: &str) {
+    match end.time_left(number_of(at, out)) {
+        Some(left) => out.value(left),
+        None => out.text("none"),
     }
 }
 
 impl Steps for Ending {
-    fn step(&mut self, step: &str, out: &mut String) -> anyhow::Result<()> {
+    fn step(&mut self, step: &str, out: &mut Answer) {
         let (verb, rest) = first_word(step);
         if verb == "left" {
             return push_left(out, self.end, rest);
         }
-        let action = self.end.meet(event_of(verb, rest)?);
-        out.push_str(name_of(self.end))?;
+        let action = self.end.meet(event_of(verb, rest, out));
+        out.text(name_of(self.end));
         push_action(out, action)
     }
 }
 
 /// Writes what the steps of a case answer.
-pub(crate) fn answer(script: &str, out: &mut String) -> anyhow::Result<()> {
+pub(crate) fn answer(script: &str, out: &mut Answer) {
     let end = LinkEnd::new();
     play(&mut Ending { end }, script, out)
 }

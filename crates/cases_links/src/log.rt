@@ -12,12 +12,9 @@
 //! A line is `take PLACE` or `gap LOST`. If one is of another link, or its place isn't above those before it, the case
 //! is wrong.
 
-use crate::script::{Steps, play};
-use anyhow::bail;
-use cases::first_word;
+use cases::{Answer, Steps, first_word, number_of, play};
 use fp_book::{Line, Log, LoggedStep};
 use std::alloc::Global;
-use std::fmt::Write;
 
 /// A log, and how many steps were put into it.
 #[derive(Drop)]
@@ -28,16 +25,15 @@ struct Turns {
 }
 
 /// Writes a line.
-fn push_line(out: &mut String, line: Option<&Line>) -> anyhow::Result<()> {
+fn push_line(out: &mut Answer, line: Option<&Line>) {
     let Some(Line::Step { link: _, step }) = line else {
-        bail!("no step");
+        return out.fail("no step");
     };
     match step {
-        LoggedStep::Take { position, .. } => write!(out, "take {position}")?,
-        LoggedStep::Gap { lost } => write!(out, "gap {lost}")?,
-        _ => bail!("another step"),
+        LoggedStep::Take { position, .. } => out.labeled("take ", *position),
+        LoggedStep::Gap { lost } => out.labeled("gap ", *lost),
+        _ => out.fail("another step"),
     }
-    Ok(())
 }
 
 /// Whether a line is of this link.
@@ -73,31 +69,49 @@ fn are_in_order(lines: &[Line]) -> bool {
     true
 }
 
+/// Whether all lines are of this link.
+fn are_of(lines: &[Line], link: u8) -> bool {
+    for line in lines {
+        if !is_of(line, link) {
+            return false;
+        }
+    }
+    true
+}
+
 /// Writes what was drained.
-fn push_lines(out: &mut String, link: u8, lines: &[Line]) -> anyhow::Result<()> {
-    if !lines.iter().all(|line| is_of(line, link)) || !are_in_order(lines) {
-        bail!("lines of another link, or out of order");
+fn push_lines(out: &mut Answer, link: u8, lines: &[Line]) {
+    if !are_of(lines, link) || !are_in_order(lines) {
+        return out.fail("lines of another link, or out of order");
     }
-    write!(out, "{} lines", lines.len())?;
+    out.value(lines.len());
+    out.text(" lines");
     if !lines.is_empty() {
-        out.push_str(", ")?;
-        push_line(out, lines.first())?;
-        out.push_str(" to ")?;
-        push_line(out, lines.last())?;
+        out.text(", ");
+        push_line(out, lines.first());
+        out.text(" to ");
+        push_line(out, lines.last());
     }
-    Ok(())
+}
+
+/// Drains the oldest steps of a log, at most `room`, and writes them as lines of a link.
+fn push_drained(alloc: Global, log: &mut Log, link: u8, room: usize, out: &mut Answer) {
+    let Ok(mut lines) = Vec::with_capacity(alloc, room) else {
+        return out.run_out();
+    };
+    log.drain(link, &mut lines);
+    push_lines(out, link, lines.as_slice());
 }
 
 impl Turns {
     /// Writes how many steps the log has.
-    fn push_length(&self, out: &mut String) -> anyhow::Result<()> {
-        write!(out, "{}", self.log.len())?;
-        Ok(())
+    fn push_length(&self, out: &mut Answer) {
+        out.value(self.log.len());
     }
 
     /// Puts steps into the log.
-    fn add(&mut self, count: &str, out: &mut String) -> anyhow::Result<()> {
-        let count: u16 = count.parse()?;
+    fn add(&mut self, count: &str, out: &mut Answer) {
+        let count: u16 = number_of(count, out);
         for _ in 0..count {
             self.log.add(LoggedStep::Take {
                 birth: 1,
@@ -110,55 +124,48 @@ impl Turns {
     }
 
     /// Exchanges the log for an empty one.
-    fn exchange(&mut self, out: &mut String) -> anyhow::Result<()> {
-        let mut log = Log::new(self.alloc)?;
+    fn exchange(&mut self, out: &mut Answer) {
+        let Ok(mut log) = Log::new(self.alloc) else {
+            return out.run_out();
+        };
         self.log.exchange(&mut log);
-        let lines = lines_of(self.alloc, &mut log)?;
-        push_lines(out, 0, lines.as_slice())?;
-        write!(out, ", {} left", self.log.len())?;
-        Ok(())
+        let room = log.len();
+        push_drained(self.alloc, &mut log, 0, room, out);
+        out.labeled(", ", self.log.len());
+        out.text(" left");
     }
 
     /// Drains the oldest steps.
-    fn drain(&mut self, text: &str, out: &mut String) -> anyhow::Result<()> {
+    fn drain(&mut self, text: &str, out: &mut Answer) {
         let (link, room) = first_word(text);
-        let link: u8 = link.parse()?;
-        let mut lines = Vec::with_capacity(self.alloc, room.parse()?)?;
-        self.log.drain(link, &mut lines);
-        push_lines(out, link, lines.as_slice())
+        let link: u8 = number_of(link, out);
+        let room: usize = number_of(room, out);
+        push_drained(self.alloc, &mut self.log, link, room, out);
     }
 }
 
-/// Moves the steps of a log to a list, as lines of link 0.
-fn lines_of(alloc: Global, log: &mut Log) -> anyhow::Result<Vec<Line>> {
-    let mut lines = Vec::with_capacity(alloc, log.len())?;
-    log.drain(0, &mut lines);
-    Ok(lines)
-}
-
 impl Steps for Turns {
-    fn step(&mut self, step: &str, out: &mut String) -> anyhow::Result<()> {
+    fn step(&mut self, step: &str, out: &mut Answer) {
         let (verb, rest) = first_word(step);
         match verb {
             "drain" => self.drain(rest, out),
             "add" => self.add(rest, out),
             "len" => self.push_length(out),
             "exchange" => self.exchange(out),
-            _ => bail!("no step: {verb}"),
+            _ => out.fail("no such step"),
         }
     }
 }
 
 /// Writes what the steps of a case answer.
-pub(crate) fn answer(alloc: Global, script: &str, out: &mut String) -> anyhow::Result<()> {
-    let log = Log::new(alloc)?;
-    play(
-        &mut Turns {
-            alloc,
-            log,
-            added: 0,
-        },
-        script,
-        out,
-    )
+pub(crate) fn answer(alloc: Global, script: &str, out: &mut Answer) {
+    let Ok(log) = Log::new(alloc) else {
+        return out.run_out();
+    };
+    let mut turns = Turns {
+        alloc,
+        log,
+        added: 0,
+    };
+    play(&mut turns, script, out);
 }

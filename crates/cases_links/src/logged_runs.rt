@@ -15,14 +15,12 @@ use crate::numbering::{LAST_TAG, LINKS, Numbering, numbering_of};
 use crate::replays::{SOUND, push_replay};
 use crate::runs::{outputs_of, steps_of};
 use crate::texts::push_barred;
-use anyhow::{bail, ensure};
-use cases::first_word;
+use cases::{Answer, first_word, number_of};
 use fp_book::{Line, Totals};
 use fp_records::Table;
 use fp_replay::{report_line, write_line};
 use fp_steps::{Output, Step, lines_with_tag, totals};
-use std::alloc::Global;
-use std::fmt::Write;
+use std::alloc::{AllocError, Global};
 
 /// The totals of a link that did nothing.
 const NONE: Totals = Totals {
@@ -46,50 +44,46 @@ fn unlogged(output: &Output) -> Option<&'static str> {
 }
 
 /// Writes all answers that a log has no line for.
-fn push_unlogged(outputs: &[Output], out: &mut String) -> anyhow::Result<()> {
+fn push_unlogged(outputs: &[Output], out: &mut Answer) {
     let mut mark = "; no line: ";
     for output in outputs {
         if let Some(answer) = unlogged(output) {
-            out.push_str(mark)?;
-            out.push_str(answer)?;
+            out.text(mark);
+            out.text(answer);
             mark = ", ";
         }
+    }
+}
+
+/// Appends the text of lines.
+fn push_text(text: &mut Vec<u8>, lines: &[Line]) -> Result<(), AllocError> {
+    for line in lines {
+        write_line(line, text)?;
     }
     Ok(())
 }
 
 /// The text of lines.
-pub(crate) fn text_of(alloc: Global, lines: &[Line]) -> anyhow::Result<Vec<u8>> {
+pub(crate) fn text_of(alloc: Global, lines: &[Line], out: &mut Answer) -> Vec<u8> {
     let mut text = Vec::new(alloc);
-    for line in lines {
-        write_line(line, &mut text)?;
-    }
-    Ok(text)
+    out.note(push_text(&mut text, lines));
+    text
 }
 
 /// Writes the line of a link in a report.
-fn push_totals(alloc: Global, link: u8, totals: Totals, out: &mut String) -> anyhow::Result<()> {
-    let line = report_line(alloc, usize::from(link), totals)?;
-    Ok(push_barred(out, line.as_bytes())?)
+fn push_totals(alloc: Global, link: u8, totals: Totals, out: &mut Answer) {
+    match report_line(alloc, usize::from(link), totals) {
+        Ok(line) => push_barred(out, line.as_bytes()),
+        Err(_) => out.run_out(),
+    }
 }
 
 /// Writes the report that has these totals on a link, and no step on those before it.
-fn push_wanted(alloc: Global, link: u8, totals: Totals, out: &mut String) -> anyhow::Result<()> {
+fn push_wanted(alloc: Global, link: u8, totals: Totals, out: &mut Answer) {
     for before in 0..link {
-        push_totals(alloc, before, NONE, out)?;
+        push_totals(alloc, before, NONE, out);
     }
     push_totals(alloc, link, totals, out)
-}
-
-/// Fails unless a report is the one that has these totals on a link.
-fn compare(alloc: Global, link: u8, totals: Totals, report: &str) -> anyhow::Result<()> {
-    let mut wanted = String::new(alloc);
-    push_wanted(alloc, link, totals, &mut wanted)?;
-    ensure!(
-        report == wanted.as_str(),
-        "the replay gives {report}, the totals are {wanted}"
-    );
-    Ok(())
 }
 
 /// Writes the report of the replay of a log, which has to have the totals of the run on this link.
@@ -99,34 +93,36 @@ pub(crate) fn push_report(
     link: u8,
     totals: Totals,
     log: &[u8],
-    out: &mut String,
-) -> anyhow::Result<()> {
-    let mut report = String::new(alloc);
-    push_replay(alloc, tables, &SOUND, log, &mut report)?;
-    compare(alloc, link, totals, report.as_str())?;
-    Ok(out.push_str(report.as_str())?)
+    out: &mut Answer,
+) {
+    let mut report = Answer::new(alloc);
+    push_replay(alloc, tables, &SOUND, log, &mut report);
+    let mut wanted = Answer::new(alloc);
+    push_wanted(alloc, link, totals, &mut wanted);
+    out.append(&report);
+    if report.as_str() != wanted.as_str() {
+        out.text(", and the totals are ");
+        out.append(&wanted);
+        out.fail("the replay has other totals than the run");
+    }
 }
 
 /// Writes lines.
-fn push_shown(alloc: Global, lines: &[Line], out: &mut String) -> anyhow::Result<()> {
-    let text = text_of(alloc, lines)?;
-    Ok(push_barred(out, text.as_slice())?)
+fn push_shown(alloc: Global, lines: &[Line], out: &mut Answer) {
+    let text = text_of(alloc, lines, out);
+    push_barred(out, text.as_slice());
 }
 
 /// Writes lines, all of them or how many there are and so many of the last ones.
-fn push_lines(
-    alloc: Global,
-    lines: &[Line],
-    last: Option<usize>,
-    out: &mut String,
-) -> anyhow::Result<()> {
+fn push_lines(alloc: Global, lines: &[Line], last: Option<usize>, out: &mut Answer) {
     if last.is_some() {
-        write!(out, "{} lines, ", lines.len())?;
+        out.value(lines.len());
+        out.text(" lines, ");
     }
     let count = last.unwrap_or(lines.len());
     let (_, shown) = lines.split_at(lines.len().saturating_sub(count));
-    push_shown(alloc, shown, out)?;
-    Ok(out.push_str(" / ")?)
+    push_shown(alloc, shown, out);
+    out.text(" / ")
 }
 
 /// Writes the log of these lines, and the report of its replay.
@@ -137,25 +133,33 @@ fn push_log(
     totals: Totals,
     lines: &[Line],
     last: Option<usize>,
-    out: &mut String,
-) -> anyhow::Result<()> {
-    push_lines(alloc, lines, last, out)?;
-    let log = text_of(alloc, lines)?;
+    out: &mut Answer,
+) {
+    push_lines(alloc, lines, last, out);
+    let log = text_of(alloc, lines, out);
     push_report(alloc, tables, link, totals, log.as_slice(), out)
 }
 
-/// The log of a run.
+/// The log of a run; empty if memory runs out, or if there is no such link or tag, which is a fault of the answer.
 pub(crate) fn log_of(
     alloc: Global,
     numbering: Numbering,
     steps: &[Step],
     outputs: &[Output],
-) -> anyhow::Result<Vec<Line>> {
+    out: &mut Answer,
+) -> Vec<Line> {
     let Numbering { link, tag } = numbering;
     if link >= LINKS || tag > LAST_TAG {
-        bail!("no link, or no tag");
+        out.fail("no link, or no tag");
+        return Vec::new(alloc);
     }
-    Ok(lines_with_tag(alloc, link, tag, steps, outputs)?)
+    match lines_with_tag(alloc, link, tag, steps, outputs) {
+        Ok(lines) => lines,
+        Err(_) => {
+            out.run_out();
+            Vec::new(alloc)
+        }
+    }
 }
 
 /// Writes what a run gives that answered so, with so many of the last lines of its log, or all.
@@ -166,11 +170,11 @@ fn push_outputs(
     steps: &[Step],
     outputs: &[Output],
     last: Option<usize>,
-    out: &mut String,
-) -> anyhow::Result<()> {
-    let lines = log_of(alloc, numbering, steps, outputs)?;
+    out: &mut Answer,
+) {
+    let lines = log_of(alloc, numbering, steps, outputs, out);
     let (link, totals) = (numbering.link, totals(outputs));
-    push_log(alloc, tables, link, totals, lines.as_slice(), last, out)?;
+    push_log(alloc, tables, link, totals, lines.as_slice(), last, out);
     push_unlogged(outputs, out)
 }
 
@@ -181,9 +185,9 @@ fn push_run(
     numbering: Numbering,
     steps: &[Step],
     last: Option<usize>,
-    out: &mut String,
-) -> anyhow::Result<()> {
-    let outputs = outputs_of(alloc, tables, numbering, steps)?;
+    out: &mut Answer,
+) {
+    let outputs = outputs_of(alloc, tables, numbering, steps, out);
     push_outputs(
         alloc,
         tables,
@@ -196,25 +200,20 @@ fn push_run(
 }
 
 /// Writes what the run of a text gives, with so many of the last lines of its log, or all.
-fn push_case(
-    alloc: Global,
-    tables: &[Table],
-    text: &str,
-    last: Option<usize>,
-    out: &mut String,
-) -> anyhow::Result<()> {
+fn push_case(alloc: Global, tables: &[Table], text: &str, last: Option<usize>, out: &mut Answer) {
     let Some((numbering, script)) = text.split_once(": ") else {
-        bail!("no link");
+        return out.fail("no link");
     };
-    let numbering = numbering_of(numbering)?;
-    let steps = steps_of(alloc, numbering, script)?;
+    let numbering = numbering_of(numbering, out);
+    let steps = steps_of(alloc, numbering, script, out);
     push_run(alloc, tables, numbering, steps.as_slice(), last, out)
 }
 
 /// What a run of many steps gives.
-fn long(alloc: Global, tables: &[Table], rest: &str, out: &mut String) -> anyhow::Result<()> {
+fn long(alloc: Global, tables: &[Table], rest: &str, out: &mut Answer) {
     let (count, text) = first_word(rest);
-    push_case(alloc, tables, text, Some(count.parse()?), out)
+    let count: usize = number_of(count, out);
+    push_case(alloc, tables, text, Some(count), out);
 }
 
 /// Writes what a case of this module gives, and says whether it has one of this kind.
@@ -223,13 +222,12 @@ pub(crate) fn answer(
     tables: &[Table],
     kind: &str,
     rest: &str,
-    out: &mut String,
-) -> anyhow::Result<bool> {
-    let written = match kind {
+    out: &mut Answer,
+) -> bool {
+    match kind {
         "logged-run" => push_case(alloc, tables, rest, None, out),
         "long-run" => long(alloc, tables, rest, out),
-        _ => return Ok(false),
-    };
-    written?;
-    Ok(true)
+        _ => return false,
+    }
+    true
 }

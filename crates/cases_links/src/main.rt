@@ -52,12 +52,11 @@ mod replays;
 mod rows;
 mod runs;
 mod scene;
-mod script;
 mod sending;
 mod streams;
 mod texts;
 
-use cases::{Answers, first_word};
+use cases::{Answer, Answers, first_word, number_of};
 use fp_records::Table;
 use std::alloc::Global;
 
@@ -85,27 +84,20 @@ struct Links {
 }
 
 /// Writes what a case of the link or of a line of its log gives, and says whether there is one of this kind.
-fn of_link(alloc: Global, kind: &str, rest: &str, out: &mut String) -> anyhow::Result<bool> {
-    Ok(
-        streams::answer(alloc, kind, rest, out)?
-            || receiving::answer(alloc, kind, rest, out)?
-            || sending::answer(alloc, kind, rest, out)?
-            || lines::answer(alloc, kind, rest, out)?
-            || counting::answer(alloc, kind, rest, out)?
-            || pages::answer(alloc, kind, rest, out)?
-            || html::answer(alloc, kind, rest, out)?,
-    )
+fn of_link(alloc: Global, kind: &str, rest: &str, out: &mut Answer) -> bool {
+    streams::answer(alloc, kind, rest, out)
+        || receiving::answer(alloc, kind, rest, out)
+        || sending::answer(alloc, kind, rest, out)
+        || lines::answer(alloc, kind, rest, out)
+        || counting::answer(alloc, kind, rest, out)
+        || pages::answer(alloc, kind, rest, out)
+        || html::answer(alloc, kind, rest, out)
 }
 
 /// Writes what a case of dialogues gives, and says whether there is one of this kind.
-fn of_dialogues(
-    alloc: Global,
-    table: &Table,
-    input: &str,
-    out: &mut String,
-) -> anyhow::Result<bool> {
+fn of_dialogues(alloc: Global, table: &Table, input: &str, out: &mut Answer) -> bool {
     let (kind, steps) = first_word(input);
-    let written = match kind {
+    match kind {
         "row" => scene::answer(alloc, table, input, out),
         "rows" => rows::answer(alloc, steps, out),
         "log" => log::answer(alloc, steps, out),
@@ -114,68 +106,52 @@ fn of_dialogues(
         "end" => link_end::answer(steps, out),
         "arrivals" => arrivals::answer(alloc, table, steps, out),
         "book" => book::answer(alloc, table, steps, out),
-        _ => return Ok(false),
-    };
-    written?;
-    Ok(true)
+        _ => return false,
+    }
+    true
 }
 
-/// Writes what a case of a whole run gives, and says whether there is one of this kind.
-fn of_run(
-    alloc: Global,
-    tables: &[Table],
-    kind: &str,
-    rest: &str,
-    out: &mut String,
-) -> anyhow::Result<bool> {
-    let written = match kind {
+/// Writes what a case of a whole run or of a log gives, and says whether there is one of this kind.
+fn of_run(alloc: Global, tables: &[Table], kind: &str, rest: &str, out: &mut Answer) -> bool {
+    match kind {
         "run" => runs::answer(alloc, tables, rest, out),
         "random" => runs::answer_random(alloc, tables, rest, out),
         "random-after" => runs::answer_random_after(alloc, tables, rest, out),
-        _ => return Ok(false),
-    };
-    written?;
-    Ok(true)
-}
-
-/// Writes what a case of a log gives, and says whether there is one of this kind.
-fn of_log(
-    alloc: Global,
-    tables: &[Table],
-    kind: &str,
-    rest: &str,
-    out: &mut String,
-) -> anyhow::Result<bool> {
-    Ok(
-        replays::answer(alloc, tables, kind, rest, out)?
-            || logged_runs::answer(alloc, tables, kind, rest, out)?,
-    )
+        _ => {
+            return replays::answer(alloc, tables, kind, rest, out)
+                || logged_runs::answer(alloc, tables, kind, rest, out);
+        }
+    }
+    true
 }
 
 /// This number of tables that have no numbers, each with the index of its place.
-fn bare_tables(alloc: Global, count: u32) -> anyhow::Result<Vec<Table>> {
+fn bare_tables(alloc: Global, count: u32, out: &mut Answer) -> Vec<Table> {
     let mut tables = Vec::new(alloc);
     for index in 0..count {
-        let table = Table::read(alloc, HEAD.as_bytes())?;
-        tables.push(table.numbered(u16::try_from(index).unwrap_or(u16::MAX)))?;
+        match Table::read(alloc, HEAD.as_bytes()) {
+            Ok(table) => {
+                let place = u16::try_from(index).unwrap_or(u16::MAX);
+                out.push(&mut tables, table.numbered(place));
+            }
+            Err(_) => out.run_out(),
+        }
     }
-    Ok(tables)
+    tables
 }
 
 /// Writes what a case of a run or of a log gives by this number of tables that have no numbers.
-fn by_tables(alloc: Global, rest: &str, out: &mut String) -> anyhow::Result<()> {
+fn by_tables(alloc: Global, rest: &str, out: &mut Answer) {
     let (count, input) = first_word(rest);
     let (kind, rest) = first_word(input);
-    let tables = bare_tables(alloc, count.parse()?)?;
-    let tables = tables.as_slice();
-    if !of_run(alloc, tables, kind, rest, out)? && !of_log(alloc, tables, kind, rest, out)? {
-        anyhow::bail!("no such case");
+    let tables = bare_tables(alloc, number_of(count, out), out);
+    if !of_run(alloc, tables.as_slice(), kind, rest, out) {
+        out.fail("no such case");
     }
-    Ok(())
 }
 
 impl Answers for Links {
-    fn answer(&mut self, input: &str, out: &mut String) -> anyhow::Result<()> {
+    fn answer(&mut self, input: &str, out: &mut Answer) {
         let alloc = self.alloc;
         let (kind, rest) = first_word(input);
         if kind == "by-tables" {
@@ -183,16 +159,14 @@ impl Answers for Links {
         }
         let tables = self.tables.as_slice();
         let Some(first) = tables.first() else {
-            anyhow::bail!("no records");
+            return out.fail("no records");
         };
-        if !of_link(alloc, kind, rest, out)?
-            && !of_dialogues(alloc, first, input, out)?
-            && !of_run(alloc, tables, kind, rest, out)?
-            && !of_log(alloc, tables, kind, rest, out)?
+        if !of_link(alloc, kind, rest, out)
+            && !of_dialogues(alloc, first, input, out)
+            && !of_run(alloc, tables, kind, rest, out)
         {
-            anyhow::bail!("no such case");
+            out.fail("no such case");
         }
-        Ok(())
     }
 }
 

@@ -1,5 +1,7 @@
 //! How the local transaction identifiers of a run are numbered: by its link and its tag.
 
+use cases::{Answer, number_of};
+
 /// The number of links.
 pub(crate) const LINKS: u8 = 8;
 
@@ -19,15 +21,17 @@ pub(crate) struct Numbering {
     pub(crate) tag: u16,
 }
 
-/// The link and the tag of a text `LINK/TAG`, or of `LINK`, which has no tag.
-pub(crate) fn numbering_of(text: &str) -> anyhow::Result<Numbering> {
+/// The link and the tag of a text `LINK/TAG`, or of `LINK`, which has no tag. Words that aren't numbers are a fault
+/// of the answer.
+pub(crate) fn numbering_of(text: &str, out: &mut Answer) -> Numbering {
     let (link, tag) = match text.split_once('/') {
         Some(parts) => parts,
         None => (text, "0"),
     };
-    let link: u8 = link.parse()?;
-    let tag: u16 = tag.parse()?;
-    Ok(Numbering { link, tag })
+    Numbering {
+        link: number_of(link, out),
+        tag: number_of(tag, out),
+    }
 }
 
 impl Numbering {

@@ -23,16 +23,13 @@
 //! | `abandon NAME` | the parcel is never taken back: `abandoned` |
 
 use crate::held::{Held, Named, abandon, abandon_all, find_parcel, keep, push_parcel, served};
-use crate::script::{Steps, play};
-use crate::texts::{local_of, moment_after, name_of, peer_of, push_local, push_text};
-use anyhow::bail;
-use cases::first_word;
+use crate::texts::{moment_after, name_of, peer_of, push_local};
+use cases::{Answer, Steps, first_word, identifier_of, number_of, play};
 use fp_book::{Outbox, Picked};
 use fp_q773::{AbortCause, Tid};
 use fp_reply::abort_frame;
-use fp_row::{RequestFrames, Requested, Row};
-use std::alloc::Global;
-use std::fmt::Write;
+use fp_row::{RequestFrames, Requested, Row, Turn};
+use std::alloc::{AllocError, Global};
 
 /// How long a dialogue waits for a message, in milliseconds.
 const PATIENCE: u32 = 300_000;
@@ -50,51 +47,71 @@ struct Desk {
 }
 
 /// The cause of an Abort.
-fn cause_of(text: &str) -> anyhow::Result<AbortCause> {
+fn cause_of(text: &str, out: &mut Answer) -> AbortCause {
     match text {
-        "UnrecognizedMessageType" => Ok(AbortCause::UnrecognizedMessageType),
-        "UnrecognizedTransactionIdentifier" => Ok(AbortCause::UnrecognizedTransactionIdentifier),
-        "BadlyFormattedTransactionPortion" => Ok(AbortCause::BadlyFormattedTransactionPortion),
-        "ResourceLimitation" => Ok(AbortCause::ResourceLimitation),
-        _ => bail!("no cause: {text}"),
-    }
-}
-
-/// The frames that a dialogue requests at its deadline.
-fn frames_of_row(alloc: Global, row: &mut Row) -> anyhow::Result<RequestFrames> {
-    row.accept_clock(moment_after(PATIENCE)?)?;
-    let Some(turn) = row.take(alloc, 1)? else {
-        bail!("no turn");
-    };
-    match row.give(served(alloc, turn)?) {
-        Ok(Requested::Frames(frames)) => Ok(frames),
-        Ok(_) => bail!("no frame"),
-        Err(done) => {
-            done.abandon();
-            bail!("strange turn");
+        "UnrecognizedMessageType" => AbortCause::UnrecognizedMessageType,
+        "UnrecognizedTransactionIdentifier" => AbortCause::UnrecognizedTransactionIdentifier,
+        "BadlyFormattedTransactionPortion" => AbortCause::BadlyFormattedTransactionPortion,
+        "ResourceLimitation" => AbortCause::ResourceLimitation,
+        _ => {
+            out.fail("no such cause");
+            AbortCause::ResourceLimitation
         }
     }
 }
 
-/// Adds the frame of a dialogue of these identifiers that accepted no message, and says whether there was a place. The
-/// birth of the dialogue is its local identifier.
-fn add_frame(alloc: Global, outbox: &mut Outbox, local: u32, peer: Tid) -> anyhow::Result<bool> {
-    let mut row = Row::open(alloc, local, peer, u64::from(local), moment_after(0)?);
-    let frames = frames_of_row(alloc, &mut row)?;
+/// The turn of a dialogue at its deadline.
+fn turn_of_row(alloc: Global, row: &mut Row) -> Result<Option<Turn>, AllocError> {
+    row.accept_clock(moment_after(PATIENCE))?;
+    row.take(alloc, 1)
+}
+
+/// The frames that a dialogue requests at its deadline. `None` if memory runs out, which is a fault of the answer.
+fn frames_of_row(alloc: Global, row: &mut Row, out: &mut Answer) -> Option<RequestFrames> {
+    let Ok(Some(turn)) = turn_of_row(alloc, row) else {
+        out.fail("no turn, or out of memory");
+        return None;
+    };
+    match row.give(served(alloc, turn, out)?) {
+        Ok(Requested::Frames(frames)) => Some(frames),
+        Ok(_) => {
+            out.fail("no frame");
+            None
+        }
+        Err(done) => {
+            done.abandon();
+            out.fail("strange turn");
+            None
+        }
+    }
+}
+
+/// Adds frames, and returns whether there was a place.
+fn add(outbox: &mut Outbox, local: u32, frames: RequestFrames) -> bool {
     if outbox.frames_held().saturating_add(frames.len()) > Outbox::MOST_FRAMES {
-        return Ok(false);
+        return false;
     }
     outbox.add_frames(local, u64::from(local), frames);
-    Ok(true)
+    true
+}
+
+/// Adds the frame of a dialogue of these identifiers that accepted no message, and says whether there was a place. The
+/// birth of the dialogue is its local identifier.
+fn add_frame(alloc: Global, outbox: &mut Outbox, local: u32, peer: Tid, out: &mut Answer) -> bool {
+    let mut row = Row::open(alloc, local, peer, u64::from(local), moment_after(0));
+    match frames_of_row(alloc, &mut row, out) {
+        Some(frames) => add(outbox, local, frames),
+        None => false,
+    }
 }
 
 /// Adds COUNT frames, and says whether there was a place for the last one.
-fn add_frames(alloc: Global, outbox: &mut Outbox, count: u32) -> anyhow::Result<bool> {
+fn add_frames(alloc: Global, outbox: &mut Outbox, count: u32, out: &mut Answer) -> bool {
     let mut fits = true;
     for number in 1..=count {
-        fits = add_frame(alloc, outbox, number, Tid::of_number(number))?;
+        fits = add_frame(alloc, outbox, number, Tid::of_number(number), out);
     }
-    Ok(fits)
+    fits
 }
 
 /// Adds COUNT Aborts of the provider, and says whether there was a place for the last one.
@@ -108,57 +125,51 @@ fn add_aborts(outbox: &mut Outbox, count: u32) -> bool {
 }
 
 /// Writes whether there was a place.
-fn push_fits(out: &mut String, fits: bool) -> anyhow::Result<()> {
-    push_text(out, if fits { "waits" } else { "full" })
+fn push_fits(out: &mut Answer, fits: bool) {
+    out.either(fits, "waits", "full")
 }
 
 /// Adds an Abort.
-fn abort(outbox: &mut Outbox, text: &str, out: &mut String) -> anyhow::Result<()> {
+fn abort(outbox: &mut Outbox, text: &str, out: &mut Answer) {
     let (peer, cause) = first_word(text);
-    let peer = peer_of(peer)?;
-    let cause = cause_of(cause)?;
+    let peer = peer_of(peer, out);
+    let cause = cause_of(cause, out);
     push_fits(out, outbox.add_abort(abort_frame(peer, cause)))
 }
 
 /// Adds Aborts.
-fn aborts(outbox: &mut Outbox, count: &str, out: &mut String) -> anyhow::Result<()> {
-    let count: u32 = count.parse()?;
+fn aborts(outbox: &mut Outbox, count: &str, out: &mut Answer) {
+    let count: u32 = number_of(count, out);
     push_fits(out, add_aborts(outbox, count))
 }
 
 /// Adds a frame.
-fn frame(alloc: Global, outbox: &mut Outbox, text: &str, out: &mut String) -> anyhow::Result<()> {
+fn frame(alloc: Global, outbox: &mut Outbox, text: &str, out: &mut Answer) {
     let (local, peer) = first_word(text);
-    let local = local_of(local)?;
-    let peer = peer_of(peer)?;
-    push_fits(out, add_frame(alloc, outbox, local, peer)?)
+    let local = identifier_of(local, out);
+    let peer = peer_of(peer, out);
+    let fits = add_frame(alloc, outbox, local, peer, out);
+    push_fits(out, fits);
 }
 
 /// Adds frames.
-fn frames(alloc: Global, outbox: &mut Outbox, count: &str, out: &mut String) -> anyhow::Result<()> {
-    let count: u32 = count.parse()?;
-    push_fits(out, add_frames(alloc, outbox, count)?)
+fn frames(alloc: Global, outbox: &mut Outbox, count: &str, out: &mut Answer) {
+    let count: u32 = number_of(count, out);
+    let fits = add_frames(alloc, outbox, count, out);
+    push_fits(out, fits);
 }
 
 /// Picks what is sent next, and keeps it.
-fn pick(
-    outbox: &mut Outbox,
-    link: u8,
-    parcels: &mut Vec<Named>,
-    name: &str,
-    out: &mut String,
-) -> anyhow::Result<()> {
-    let name = name_of(name)?;
+fn pick(outbox: &mut Outbox, link: u8, parcels: &mut Vec<Named>, name: &str, out: &mut Answer) {
+    let name = name_of(name, out);
     match outbox.pick(link) {
-        Picked::Busy => out.push_str("busy")?,
-        Picked::Nothing => out.push_str("nothing")?,
+        Picked::Busy => out.text("busy"),
+        Picked::Nothing => out.text("nothing"),
         Picked::Parcel(parcel) => {
-            let written = push_parcel(out, &parcel);
+            push_parcel(out, &parcel);
             keep(parcels, name, Held::Parcel(parcel));
-            written?;
         }
     }
-    Ok(())
 }
 
 /// Takes a parcel back.
@@ -167,60 +178,55 @@ fn take_back(
     link: u8,
     parcels: &mut Vec<Named>,
     name: &str,
-    out: &mut String,
-) -> anyhow::Result<()> {
-    let name = name_of(name)?;
-    let parcel = find_parcel(parcels, name)?;
+    out: &mut Answer,
+) {
+    let name = name_of(name, out);
+    let Some(parcel) = find_parcel(parcels, name, out) else {
+        return;
+    };
     match outbox.take_back(link, parcel) {
-        Ok(()) => push_text(out, "taken"),
+        Ok(()) => out.text("taken"),
         Err(parcel) => {
             keep(parcels, name, Held::Parcel(parcel));
-            push_text(out, "strange")
+            out.text("strange")
         }
     }
 }
 
 /// Writes of which dialogue a parcel is.
-fn push_owner(parcels: &mut Vec<Named>, name: &str, out: &mut String) -> anyhow::Result<()> {
-    let name = name_of(name)?;
-    let parcel = find_parcel(parcels, name)?;
-    let dialogue = parcel.dialogue();
-    keep(parcels, name, Held::Parcel(parcel));
-    push_local(out, dialogue)
+fn push_owner(parcels: &mut Vec<Named>, name: &str, out: &mut Answer) {
+    let name = name_of(name, out);
+    if let Some(parcel) = find_parcel(parcels, name, out) {
+        push_local(out, parcel.dialogue());
+        keep(parcels, name, Held::Parcel(parcel));
+    }
 }
 
 /// Writes whether a frame of a dialogue is being sent.
-fn push_sending(outbox: &Outbox, local: &str, out: &mut String) -> anyhow::Result<()> {
-    let is_sending = outbox.is_sending(local_of(local)?);
-    push_text(out, if is_sending { "sending" } else { "not sending" })
+fn push_sending(outbox: &Outbox, local: &str, out: &mut Answer) {
+    let is_sending = outbox.is_sending(identifier_of(local, out));
+    out.either(is_sending, "sending", "not sending")
 }
 
 /// Writes how many places for frames are held.
-fn push_held(outbox: &Outbox, out: &mut String) -> anyhow::Result<()> {
-    write!(out, "{}", outbox.frames_held())?;
-    Ok(())
+fn push_held(outbox: &Outbox, out: &mut Answer) {
+    out.value(outbox.frames_held());
 }
 
 /// Drops the frames of a dialogue that wait.
-fn drop_frames(outbox: &mut Outbox, local: &str, out: &mut String) -> anyhow::Result<()> {
-    outbox.drop_frames(local_of(local)?);
+fn drop_frames(outbox: &mut Outbox, local: &str, out: &mut Answer) {
+    outbox.drop_frames(identifier_of(local, out));
     push_held(outbox, out)
 }
 
 /// Drops all that waits.
-fn clear(outbox: &mut Outbox, out: &mut String) -> anyhow::Result<()> {
+fn clear(outbox: &mut Outbox, out: &mut Answer) {
     outbox.clear();
     push_held(outbox, out)
 }
 
 /// A step about an outbox alone.
-fn own_step(
-    alloc: Global,
-    outbox: &mut Outbox,
-    verb: &str,
-    rest: &str,
-    out: &mut String,
-) -> anyhow::Result<()> {
+fn own_step(alloc: Global, outbox: &mut Outbox, verb: &str, rest: &str, out: &mut Answer) {
     match verb {
         "abort" => abort(outbox, rest, out),
         "aborts" => aborts(outbox, rest, out),
@@ -230,16 +236,16 @@ fn own_step(
         "drop" => drop_frames(outbox, rest, out),
         "clear" => clear(outbox, out),
         "held" => push_held(outbox, out),
-        _ => bail!("no step: {verb}"),
+        _ => out.fail("no such step"),
     }
 }
 
 impl Desk {
     /// A step about an outbox.
-    fn outbox_step(&mut self, verb: &str, rest: &str, out: &mut String) -> anyhow::Result<()> {
+    fn outbox_step(&mut self, verb: &str, rest: &str, out: &mut Answer) {
         let (alloc, link) = (self.alloc, self.link);
         let Some(outbox) = self.outboxes.get_mut(self.place) else {
-            bail!("no outbox");
+            return out.fail("no outbox");
         };
         let parcels = &mut self.parcels;
         match verb {
@@ -252,18 +258,16 @@ impl Desk {
     }
 
     /// Goes to an outbox.
-    fn go(&mut self, number: &str, out: &mut String) -> anyhow::Result<()> {
-        let number: usize = number.parse()?;
+    fn go(&mut self, number: &str, out: &mut Answer) {
+        let number: usize = number_of(number, out);
         self.place = number.saturating_sub(1);
-        write!(out, "{number}")?;
-        Ok(())
+        out.value(number);
     }
 
     /// Parcels are of this link from now on.
-    fn change_link(&mut self, number: &str, out: &mut String) -> anyhow::Result<()> {
-        self.link = number.parse()?;
-        write!(out, "{}", self.link)?;
-        Ok(())
+    fn change_link(&mut self, number: &str, out: &mut Answer) {
+        self.link = number_of(number, out);
+        out.value(self.link);
     }
 
     /// Spends the parcels that are out.
@@ -280,7 +284,7 @@ impl Desk {
 }
 
 impl Steps for Desk {
-    fn step(&mut self, step: &str, out: &mut String) -> anyhow::Result<()> {
+    fn step(&mut self, step: &str, out: &mut Answer) {
         let (verb, rest) = first_word(step);
         match verb {
             "to" => self.go(rest, out),
@@ -290,24 +294,25 @@ impl Steps for Desk {
     }
 }
 
-/// Two outboxes.
-fn outboxes(alloc: Global) -> anyhow::Result<Vec<Outbox>> {
-    let mut outboxes = Vec::new(alloc);
-    outboxes.push(Outbox::new(alloc)?)?;
-    outboxes.push(Outbox::new(alloc)?)?;
-    Ok(outboxes)
+/// One more outbox.
+fn add_outbox(alloc: Global, outboxes: &mut Vec<Outbox>, out: &mut Answer) {
+    match Outbox::new(alloc) {
+        Ok(outbox) => out.push(outboxes, outbox),
+        Err(_) => out.run_out(),
+    }
 }
 
 /// Writes what the steps of a case answer.
-pub(crate) fn answer(alloc: Global, script: &str, out: &mut String) -> anyhow::Result<()> {
+pub(crate) fn answer(alloc: Global, script: &str, out: &mut Answer) {
     let mut desk = Desk {
         alloc,
-        outboxes: outboxes(alloc)?,
+        outboxes: Vec::new(alloc),
         place: 0,
         link: 0,
         parcels: Vec::new(alloc),
     };
-    let answered = play(&mut desk, script, out);
+    add_outbox(alloc, &mut desk.outboxes, out);
+    add_outbox(alloc, &mut desk.outboxes, out);
+    play(&mut desk, script, out);
     desk.abandon();
-    answered
 }

@@ -10,13 +10,10 @@
 //! | `len` | how many there are |
 //! | `clear` | all are taken out: how many there are then |
 
-use crate::script::{Steps, play};
-use crate::texts::{local_of, push_local};
-use anyhow::bail;
-use cases::first_word;
+use crate::texts::push_local;
+use cases::{Answer, Steps, first_word, identifier_of, number_of, play};
 use fp_book::ReadyQueue;
 use std::alloc::Global;
-use std::fmt::Write;
 
 /// The first identifier of `fill`.
 const FIRST: u32 = 0x2000_0001;
@@ -47,31 +44,30 @@ impl Order {
     }
 
     /// A step that may put identifiers, or take them out: whether there was a place.
-    fn change(&mut self, verb: &str, rest: &str) -> anyhow::Result<bool> {
+    fn change(&mut self, verb: &str, rest: &str, out: &mut Answer) -> bool {
         match verb {
-            "join" => return Ok(self.join(local_of(rest)?)),
-            "fill" => return Ok(self.fill(rest.parse()?)),
-            "leave" => self.queue.leave(local_of(rest)?),
+            "join" => return self.join(identifier_of(rest, out)),
+            "fill" => return self.fill(number_of(rest, out)),
+            "leave" => self.queue.leave(identifier_of(rest, out)),
             "clear" => self.queue.clear(),
             "len" => {}
-            _ => bail!("no step: {verb}"),
+            _ => out.fail("no such step"),
         }
-        Ok(true)
+        true
     }
 
     /// A step that may put identifiers, or take them out: how many there are then, or `full`.
-    fn push_change(&mut self, verb: &str, rest: &str, out: &mut String) -> anyhow::Result<()> {
-        if self.change(verb, rest)? {
-            write!(out, "{}", self.queue.len())?;
+    fn push_change(&mut self, verb: &str, rest: &str, out: &mut Answer) {
+        if self.change(verb, rest, out) {
+            out.value(self.queue.len());
         } else {
-            out.push_str("full")?;
+            out.text("full");
         }
-        Ok(())
     }
 }
 
 impl Steps for Order {
-    fn step(&mut self, step: &str, out: &mut String) -> anyhow::Result<()> {
+    fn step(&mut self, step: &str, out: &mut Answer) {
         let (verb, rest) = first_word(step);
         match verb {
             "first" => push_local(out, self.queue.first()),
@@ -82,7 +78,9 @@ impl Steps for Order {
 }
 
 /// Writes what the steps of a case answer.
-pub(crate) fn answer(alloc: Global, script: &str, out: &mut String) -> anyhow::Result<()> {
-    let queue = ReadyQueue::new(alloc)?;
-    play(&mut Order { queue }, script, out)
+pub(crate) fn answer(alloc: Global, script: &str, out: &mut Answer) {
+    match ReadyQueue::new(alloc) {
+        Ok(queue) => play(&mut Order { queue }, script, out),
+        Err(_) => out.run_out(),
+    }
 }

@@ -12,13 +12,11 @@
 use crate::devices::{Octets, Reads, Waits};
 use crate::memory::Frames;
 use crate::texts::{push_frames, push_listed, push_message};
-use anyhow::ensure;
-use cases::{first_word, octets_of};
+use cases::{Answer, first_word, number_of, octets_of};
 use fp_frames::Frame;
 use fp_linkio::{Counted, Ended, LinkRead, receive};
 use std::alloc::Global;
 use std::cell::Cell;
-use std::fmt::Write;
 
 /// More reads than any case makes.
 const MANY: u64 = 1_000_000;
@@ -33,39 +31,40 @@ fn inbox(alloc: Global, count: &Cell<u32>) -> Frames<'_> {
     }
 }
 
-/// Reads a link into an inbox; returns why the loop ended.
+/// Reads a link into an inbox, and returns why the loop ended.
 fn received<R: LinkRead>(
     alloc: Global,
     reader: &mut R,
     turns: u64,
     inbox: &mut Frames<'_>,
-) -> anyhow::Result<Ended> {
+    out: &mut Answer,
+) -> Ended {
     let ended = receive(alloc, reader, turns, inbox);
-    ensure!(inbox.is_whole, "out of memory");
-    Ok(ended)
+    if !inbox.is_whole {
+        out.run_out();
+    }
+    ended
 }
 
 /// Writes `end` for each read whose frames ended after this number of frames.
-fn push_ends(out: &mut String, ends: &[usize], count: usize) -> anyhow::Result<()> {
+fn push_ends(out: &mut Answer, ends: &[usize], count: usize) {
     for end in ends {
         if *end == count {
-            push_listed(out, "end")?;
+            push_listed(out, "end");
         }
     }
-    Ok(())
 }
 
 /// Writes the messages of frames, and where those of a read end, or `no frame`.
-fn push_reads(out: &mut String, frames: &[Frame], ends: &[usize]) -> anyhow::Result<()> {
+fn push_reads(out: &mut Answer, frames: &[Frame], ends: &[usize]) {
     for (place, frame) in frames.iter().enumerate() {
-        push_ends(out, ends, place)?;
-        push_message(out, frame.octets())?;
+        push_ends(out, ends, place);
+        push_message(out, frame.octets());
     }
-    push_ends(out, ends, frames.len())?;
+    push_ends(out, ends, frames.len());
     if out.is_empty() {
-        out.push_str("no frame")?;
+        out.text("no frame");
     }
-    Ok(())
 }
 
 /// Reads a link, and writes the messages that were handed on, where those of a read ended, and why the loop ended.
@@ -74,26 +73,29 @@ fn push_received<R: LinkRead>(
     reader: &mut R,
     turns: u64,
     count: &Cell<u32>,
-    out: &mut String,
-) -> anyhow::Result<()> {
+    out: &mut Answer,
+) {
     let mut inbox = inbox(alloc, count);
-    let ended = received(alloc, reader, turns, &mut inbox)?;
-    push_reads(out, inbox.frames.as_slice(), inbox.ends.as_slice())?;
-    Ok(write!(out, ": {ended:?}")?)
+    let ended = received(alloc, reader, turns, &mut inbox, out);
+    push_reads(out, inbox.frames.as_slice(), inbox.ends.as_slice());
+    out.text(": ");
+    out.shown(&ended);
 }
 
 /// What reading a link gives.
-fn reads(alloc: Global, text: &str, out: &mut String) -> anyhow::Result<()> {
+fn reads(alloc: Global, text: &str, out: &mut Answer) {
     let (turns, words) = first_word(text);
-    let turns: u64 = turns.parse()?;
+    let turns: u64 = number_of(turns, out);
     let mut reader = Counted::new(Reads {
         alloc,
         words,
         made: 0,
     });
-    push_received(alloc, &mut reader, turns, &Cell::new(0), out)?;
+    push_received(alloc, &mut reader, turns, &Cell::new(0), out);
     let made = reader.device.made;
-    Ok(write!(out, ", {made} reads, {} failed", reader.failed)?)
+    out.labeled(", ", made);
+    out.labeled(" reads, ", reader.failed);
+    out.text(" failed");
 }
 
 /// A reader of octets.
@@ -108,62 +110,62 @@ fn reader_of(octets: &[u8], most: usize, cuts: [usize; 2], failing: u32) -> Coun
     })
 }
 
-/// The messages of octets that are read in pieces of at most `most` octets, also cut at two places.
-fn text_of(alloc: Global, octets: &[u8], most: usize, cuts: [usize; 2]) -> anyhow::Result<String> {
-    let mut text = String::new(alloc);
+/// Writes the messages of octets that are read in pieces of at most `most` octets, also cut at two places.
+fn push_cut(alloc: Global, octets: &[u8], most: usize, cuts: [usize; 2], out: &mut Answer) {
     let mut reader = reader_of(octets, most, cuts, 0);
     let count = Cell::new(0);
     let mut inbox = inbox(alloc, &count);
-    let ended = received(alloc, &mut reader, MANY, &mut inbox)?;
-    push_frames(&mut text, inbox.frames.as_slice())?;
-    write!(text, ": {ended:?}")?;
-    Ok(text)
+    let ended = received(alloc, &mut reader, MANY, &mut inbox, out);
+    push_frames(out, inbox.frames.as_slice());
+    out.text(": ");
+    out.shown(&ended);
 }
 
-/// Fails if octets that are cut at these two places have other messages.
-fn compare(alloc: Global, octets: &[u8], cuts: [usize; 2], wanted: &str) -> anyhow::Result<()> {
-    let given = text_of(alloc, octets, octets.len(), cuts)?;
-    ensure!(given.as_str() == wanted, "cut at {cuts:?}: {given}");
-    Ok(())
-}
-
-/// The number of ways to cut octets, each of which gives these messages.
-fn ways(alloc: Global, octets: &[u8], wanted: &str) -> anyhow::Result<u32> {
-    let mut ways: u32 = 1;
-    for second in 0..octets.len() {
-        for first in 0..second {
-            compare(alloc, octets, [first, second], wanted)?;
-            ways = ways.saturating_add(1);
-        }
-    }
-    Ok(ways)
+/// Whether octets that are cut at two places have these messages.
+fn is_same(alloc: Global, octets: &[u8], cuts: [usize; 2], wanted: &Answer) -> bool {
+    let mut given = Answer::new(alloc);
+    push_cut(alloc, octets, octets.len(), cuts, &mut given);
+    !given.is_faulty() && given.as_str() == wanted.as_str()
 }
 
 /// Writes these messages of octets, and in how many ways of cutting they are the same.
-fn push_ways(alloc: Global, octets: &[u8], wanted: &str, out: &mut String) -> anyhow::Result<()> {
-    let ways = ways(alloc, octets, wanted)?;
-    Ok(write!(out, "{wanted}, {ways} ways")?)
+fn push_ways(alloc: Global, octets: &[u8], wanted: &Answer, out: &mut Answer) {
+    let mut ways: u32 = 1;
+    for second in 0..octets.len() {
+        for first in 0..second {
+            if !is_same(alloc, octets, [first, second], wanted) {
+                out.labeled("other messages if cut at ", first);
+                return out.labeled(" and ", second);
+            }
+            ways = ways.saturating_add(1);
+        }
+    }
+    out.append(wanted);
+    out.labeled(", ", ways);
+    out.text(" ways");
 }
 
 /// Writes the messages of octets, however they are cut.
-fn push_cuts(alloc: Global, octets: &[u8], out: &mut String) -> anyhow::Result<()> {
-    let wanted = text_of(alloc, octets, 1, [0, 0])?;
-    push_ways(alloc, octets, wanted.as_str(), out)
+fn push_cuts(alloc: Global, octets: &[u8], out: &mut Answer) {
+    let mut wanted = Answer::new(alloc);
+    push_cut(alloc, octets, 1, [0, 0], &mut wanted);
+    push_ways(alloc, octets, &wanted, out);
 }
 
 /// The messages of octets, however they are cut.
-fn cuts(alloc: Global, text: &str, out: &mut String) -> anyhow::Result<()> {
-    let octets = octets_of(alloc, text)?;
+fn cuts(alloc: Global, text: &str, out: &mut Answer) {
+    let octets = octets_of(alloc, text, out);
     push_cuts(alloc, octets.as_slice(), out)
 }
 
 /// Whether the first of these messages are those.
 fn begin_with(all: &[Frame], front: &[Frame]) -> bool {
+    for (one, other) in all.iter().zip(front) {
+        if one.octets() != other.octets() {
+            return false;
+        }
+    }
     front.len() <= all.len()
-        && all
-            .iter()
-            .zip(front)
-            .all(|(one, other)| one.octets() == other.octets())
 }
 
 /// Writes how many messages were handed on by the loop that ended so, if this read fails. They must be the first of
@@ -174,28 +176,20 @@ fn push_front(
     ended: Ended,
     failed: u64,
     failing: u32,
-    out: &mut String,
-) -> anyhow::Result<()> {
-    ensure!(
-        ended == Ended::ReadFault && failed == 1,
-        "read {failing}: {ended:?}"
-    );
-    ensure!(begin_with(all, front), "read {failing}: other frames");
-    Ok(write!(out, "{}", front.len())?)
+    out: &mut Answer,
+) {
+    if ended != Ended::ReadFault || failed != 1 || !begin_with(all, front) {
+        return out.labeled(", wrong at read ", failing);
+    }
+    out.value(front.len());
 }
 
 /// Writes how many messages were handed on if this read of one octet fails.
-fn push_failing(
-    alloc: Global,
-    octets: &[u8],
-    failing: u32,
-    all: &[Frame],
-    out: &mut String,
-) -> anyhow::Result<()> {
+fn push_failing(alloc: Global, octets: &[u8], failing: u32, all: &[Frame], out: &mut Answer) {
     let count = Cell::new(0);
     let mut inbox = inbox(alloc, &count);
     let mut reader = reader_of(octets, 1, [0, 0], failing);
-    let ended = received(alloc, &mut reader, MANY, &mut inbox)?;
+    let ended = received(alloc, &mut reader, MANY, &mut inbox, out);
     push_front(
         all,
         inbox.frames.as_slice(),
@@ -207,37 +201,31 @@ fn push_failing(
 }
 
 /// Writes how many messages were handed on if each read fails in turn.
-fn push_faults(
-    alloc: Global,
-    octets: &[u8],
-    all: &[Frame],
-    out: &mut String,
-) -> anyhow::Result<()> {
+fn push_faults(alloc: Global, octets: &[u8], all: &[Frame], out: &mut Answer) {
     let mut failing: u32 = 0;
     for _ in 0..=octets.len() {
         failing = failing.saturating_add(1);
-        push_failing(alloc, octets, failing, all, out)?;
+        push_failing(alloc, octets, failing, all, out);
     }
-    Ok(())
 }
 
 /// Writes how many of the messages of octets were handed on if each read fails in turn.
-fn push_all_faults(alloc: Global, octets: &[u8], out: &mut String) -> anyhow::Result<()> {
+fn push_all_faults(alloc: Global, octets: &[u8], out: &mut Answer) {
     let count = Cell::new(0);
     let mut inbox = inbox(alloc, &count);
     let mut reader = reader_of(octets, 1, [0, 0], 0);
-    received(alloc, &mut reader, MANY, &mut inbox)?;
+    received(alloc, &mut reader, MANY, &mut inbox, out);
     push_faults(alloc, octets, inbox.frames.as_slice(), out)
 }
 
 /// How many messages were handed on if each read fails in turn.
-fn faults(alloc: Global, text: &str, out: &mut String) -> anyhow::Result<()> {
-    let octets = octets_of(alloc, text)?;
+fn faults(alloc: Global, text: &str, out: &mut Answer) {
+    let octets = octets_of(alloc, text, out);
     push_all_faults(alloc, octets.as_slice(), out)
 }
 
 /// Why the loop ended, where each read waits for the frames before it.
-fn waits(alloc: Global, words: &str, out: &mut String) -> anyhow::Result<()> {
+fn waits(alloc: Global, words: &str, out: &mut Answer) {
     let count = Cell::new(0);
     let mut reader = Counted::new(Waits {
         alloc,
@@ -249,19 +237,13 @@ fn waits(alloc: Global, words: &str, out: &mut String) -> anyhow::Result<()> {
 }
 
 /// Writes what a case of this module gives, and says whether it has one of this kind.
-pub(crate) fn answer(
-    alloc: Global,
-    kind: &str,
-    rest: &str,
-    out: &mut String,
-) -> anyhow::Result<bool> {
-    let written = match kind {
+pub(crate) fn answer(alloc: Global, kind: &str, rest: &str, out: &mut Answer) -> bool {
+    match kind {
         "receive" => reads(alloc, rest, out),
         "receive-cuts" => cuts(alloc, rest, out),
         "receive-faults" => faults(alloc, rest, out),
         "waits" => waits(alloc, rest, out),
-        _ => return Ok(false),
-    };
-    written?;
-    Ok(true)
+        _ => return false,
+    }
+    true
 }

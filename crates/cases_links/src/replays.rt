@@ -15,13 +15,11 @@
 
 use crate::devices::{Octets, Pieces};
 use crate::texts::push_barred;
-use anyhow::bail;
-use cases::first_word;
+use cases::{Answer, first_word, number_of};
 use fp_records::Table;
 use fp_replay::{ReplayFault, replay};
 use fp_streams::Counted;
 use std::alloc::{AllocError, Global};
-use std::fmt::Write;
 
 /// How a log is read, and its report written: how many octets a read gives and a write takes at most, and which of them
 /// fails, from 1; 0: none.
@@ -54,44 +52,38 @@ fn push_text(log: &mut Vec<u8>, text: &str) -> Result<(), AllocError> {
 }
 
 /// Adds what stands between braces.
-fn push_repeated(log: &mut Vec<u8>, text: &str) -> anyhow::Result<()> {
+fn push_repeated(log: &mut Vec<u8>, text: &str, out: &mut Answer) {
     let Some((count, text)) = text.split_once('*') else {
-        bail!("no count: {text}");
+        return out.fail("no count between braces");
     };
-    let count: u32 = count.parse()?;
+    let count: u32 = number_of(count, out);
     for _ in 0..count {
-        push_text(log, text)?;
+        out.note(push_text(log, text));
     }
-    Ok(())
 }
 
 /// Adds what a text stands for.
-fn push_log(log: &mut Vec<u8>, text: &str) -> anyhow::Result<()> {
+fn push_log(log: &mut Vec<u8>, text: &str, out: &mut Answer) {
     for part in text.split('{') {
         match part.split_once('}') {
             Some((repeated, rest)) => {
-                push_repeated(log, repeated)?;
-                push_text(log, rest)?;
+                push_repeated(log, repeated, out);
+                out.note(push_text(log, rest));
             }
-            None => push_text(log, part)?,
+            None => out.note(push_text(log, part)),
         }
     }
-    Ok(())
 }
 
 /// Writes why there is no report, and what was written of it, or the report.
-fn push_answer(
-    answer: Result<(), ReplayFault>,
-    report: &[u8],
-    out: &mut String,
-) -> anyhow::Result<()> {
+fn push_answer(answer: Result<(), ReplayFault>, report: &[u8], out: &mut Answer) {
     if let Err(fault) = answer {
-        write!(out, "{fault}")?;
+        out.value(fault);
         if !report.is_empty() {
-            out.push_str(", behind ")?;
+            out.text(", behind ");
         }
     }
-    Ok(push_barred(out, report)?)
+    push_barred(out, report);
 }
 
 /// Writes what replaying a log gives, and returns how many reads were made of it.
@@ -100,8 +92,8 @@ pub(crate) fn push_replay(
     tables: &[Table],
     devices: &Devices,
     log: &[u8],
-    out: &mut String,
-) -> anyhow::Result<u32> {
+    out: &mut Answer,
+) -> u32 {
     let mut reader = Counted::new(Octets {
         octets: log,
         given: 0,
@@ -119,8 +111,8 @@ pub(crate) fn push_replay(
         made: 0,
     });
     let answer = replay(alloc, tables, &[], devices.turns, &mut reader, &mut writer);
-    push_answer(answer, writer.device.octets.as_slice(), out)?;
-    Ok(reader.device.made)
+    push_answer(answer, writer.device.octets.as_slice(), out);
+    reader.device.made
 }
 
 /// Writes what replaying the log of a text gives, and returns how many reads were made of it.
@@ -129,35 +121,30 @@ fn replayed(
     tables: &[Table],
     devices: &Devices,
     text: &str,
-    out: &mut String,
-) -> anyhow::Result<u32> {
+    out: &mut Answer,
+) -> u32 {
     let mut log = Vec::new(alloc);
-    push_log(&mut log, text)?;
+    push_log(&mut log, text, out);
     push_replay(alloc, tables, devices, log.as_slice(), out)
 }
 
 /// What replaying the log of a text gives.
-fn report(
-    alloc: Global,
-    tables: &[Table],
-    devices: &Devices,
-    text: &str,
-    out: &mut String,
-) -> anyhow::Result<()> {
-    replayed(alloc, tables, devices, text, out)?;
-    Ok(())
+fn report(alloc: Global, tables: &[Table], devices: &Devices, text: &str, out: &mut Answer) {
+    replayed(alloc, tables, devices, text, out);
 }
 
 /// How many reads are made of a log, and what that gives.
-fn reads(alloc: Global, tables: &[Table], rest: &str, out: &mut String) -> anyhow::Result<()> {
+fn reads(alloc: Global, tables: &[Table], rest: &str, out: &mut Answer) {
     let (turns, rest) = first_word(rest);
     let (piece, text) = first_word(rest);
     let mut devices = SOUND;
-    devices.turns = turns.parse()?;
-    devices.read = piece.parse()?;
-    let mut report = String::new(alloc);
-    let count = replayed(alloc, tables, &devices, text, &mut report)?;
-    Ok(write!(out, "reads {count}, {report}")?)
+    devices.turns = number_of(turns, out);
+    devices.read = number_of(piece, out);
+    let mut report = Answer::new(alloc);
+    let count = replayed(alloc, tables, &devices, text, &mut report);
+    out.labeled("reads ", count);
+    out.text(", ");
+    out.append(&report);
 }
 
 /// The devices of which the flush fails.
@@ -167,42 +154,32 @@ fn unflushed() -> Devices {
     devices
 }
 
-/// Devices of which each read gives, and each write takes, so many octets at most.
-fn pieces(count: &str) -> anyhow::Result<Devices> {
-    let mut devices = SOUND;
-    devices.read = count.parse()?;
-    devices.write = devices.read;
-    Ok(devices)
-}
-
-/// Devices with a count: the turns, or the number of the read or the write that fails.
-fn devices_of(kind: &str, count: &str) -> anyhow::Result<Devices> {
+/// Devices with a count: the turns, the number of the read or the write that fails, or the octets of each read and
+/// write.
+fn devices_of(kind: &str, count: &str, out: &mut Answer) -> Devices {
     let mut devices = SOUND;
     match kind {
-        "turns" => devices.turns = count.parse()?,
+        "turns" => devices.turns = number_of(count, out),
         "failing-read" => {
             devices.read = 7;
-            devices.failing_read = count.parse()?;
+            devices.failing_read = number_of(count, out);
         }
         "failing-write" => {
             devices.write = 7;
-            devices.failing_write = count.parse()?;
+            devices.failing_write = number_of(count, out);
         }
-        _ => return pieces(count),
+        _ => {
+            devices.read = number_of(count, out);
+            devices.write = devices.read;
+        }
     }
-    Ok(devices)
+    devices
 }
 
 /// What replaying a log gives with devices that have a count.
-fn counted(
-    alloc: Global,
-    tables: &[Table],
-    kind: &str,
-    rest: &str,
-    out: &mut String,
-) -> anyhow::Result<()> {
+fn counted(alloc: Global, tables: &[Table], kind: &str, rest: &str, out: &mut Answer) {
     let (count, text) = first_word(rest);
-    let devices = devices_of(kind, count)?;
+    let devices = devices_of(kind, count, out);
     report(alloc, tables, &devices, text, out)
 }
 
@@ -212,17 +189,16 @@ pub(crate) fn answer(
     tables: &[Table],
     kind: &str,
     rest: &str,
-    out: &mut String,
-) -> anyhow::Result<bool> {
-    let written = match kind {
+    out: &mut Answer,
+) -> bool {
+    match kind {
         "replay" => report(alloc, tables, &SOUND, rest, out),
         "reads" => reads(alloc, tables, rest, out),
         "failing-flush" => report(alloc, tables, &unflushed(), rest, out),
         "pieces" | "turns" | "failing-read" | "failing-write" => {
             counted(alloc, tables, kind, rest, out)
         }
-        _ => return Ok(false),
-    };
-    written?;
-    Ok(true)
+        _ => return false,
+    }
+    true
 }

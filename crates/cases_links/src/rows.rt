@@ -12,14 +12,11 @@
 //! | `found COUNT` | under how many of the identifiers of `fill COUNT` the dialogue of that birth is |
 //! | `close` | all are closed, while no frame is being sent: how many are left |
 
-use crate::script::{Steps, play};
-use crate::texts::{local_of, moment_after, push_local, push_text};
-use anyhow::bail;
-use cases::first_word;
+use crate::texts::{moment_after, push_local};
+use cases::{Answer, Steps, first_word, identifier_of, number_of, play};
 use fp_q773::Tid;
 use fp_row::{Row, Rows};
 use std::alloc::Global;
-use std::fmt::Write;
 
 /// The first identifier of `fill`.
 const FIRST: u32 = 0x2000_0001;
@@ -32,62 +29,60 @@ struct Register {
 }
 
 /// Writes a birth, or `none`.
-fn push_birth(out: &mut String, birth: Option<u64>) -> anyhow::Result<()> {
+fn push_birth(out: &mut Answer, birth: Option<u64>) {
     match birth {
-        Some(birth) => write!(out, "{birth}")?,
-        None => out.push_str("none")?,
+        Some(birth) => out.value(birth),
+        None => out.text("none"),
     }
-    Ok(())
 }
 
 impl Register {
     /// Puts a dialogue of this birth under an identifier, in place of the one that was there, if any.
-    fn put(&mut self, local: u32, birth: u64) -> anyhow::Result<()> {
+    fn put(&mut self, local: u32, birth: u64, out: &mut Answer) {
         let row = Row::open(
             self.alloc,
             local,
             Tid::of_number(local),
             birth,
-            moment_after(0)?,
+            moment_after(0),
         );
         self.rows.forget(local);
-        self.rows.add(local, row)?;
-        Ok(())
+        out.note(self.rows.add(local, row));
     }
 
     /// Puts a dialogue of a birth under an identifier, both from text.
-    fn put_of(&mut self, text: &str, out: &mut String) -> anyhow::Result<()> {
+    fn put_of(&mut self, text: &str, out: &mut Answer) {
         let (local, birth) = first_word(text);
-        let local = local_of(local)?;
-        self.put(local, birth.parse()?)?;
-        push_text(out, "put")
+        let local = identifier_of(local, out);
+        let birth: u64 = number_of(birth, out);
+        self.put(local, birth, out);
+        out.text("put")
     }
 
     /// Writes how many there are.
-    fn push_count(&self, out: &mut String) -> anyhow::Result<()> {
-        write!(out, "{}", self.rows.len())?;
-        Ok(())
+    fn push_count(&self, out: &mut Answer) {
+        out.value(self.rows.len());
     }
 
     /// Puts COUNT dialogues under rising identifiers.
-    fn fill(&mut self, count: &str, out: &mut String) -> anyhow::Result<()> {
-        let count: u16 = count.parse()?;
+    fn fill(&mut self, count: &str, out: &mut Answer) {
+        let count: u16 = number_of(count, out);
         for index in 0..count {
-            self.put(FIRST + u32::from(index), u64::from(index) + 1)?;
+            self.put(FIRST + u32::from(index), u64::from(index) + 1, out);
         }
         self.push_count(out)
     }
 
     /// Removes a dialogue, and writes its birth.
-    fn remove(&mut self, local: u32, out: &mut String) -> anyhow::Result<()> {
+    fn remove(&mut self, local: u32, out: &mut Answer) {
         let birth = self.rows.get(local).map(Row::birth);
         self.rows.forget(local);
         push_birth(out, birth)
     }
 
     /// Removes COUNT dialogues under rising identifiers.
-    fn empty(&mut self, count: &str, out: &mut String) -> anyhow::Result<()> {
-        let count: u16 = count.parse()?;
+    fn empty(&mut self, count: &str, out: &mut Answer) {
+        let count: u16 = number_of(count, out);
         for index in 0..count {
             self.rows.forget(FIRST + u32::from(index));
         }
@@ -95,8 +90,8 @@ impl Register {
     }
 
     /// Writes under how many identifiers the dialogue is that was put there.
-    fn push_found(&self, count: &str, out: &mut String) -> anyhow::Result<()> {
-        let count: u16 = count.parse()?;
+    fn push_found(&self, count: &str, out: &mut Answer) {
+        let count: u16 = number_of(count, out);
         let mut found: u32 = 0;
         for index in 0..count {
             let birth = self.rows.get(FIRST + u32::from(index)).map(Row::birth);
@@ -104,30 +99,29 @@ impl Register {
                 found = found.saturating_add(1);
             }
         }
-        write!(out, "{found}")?;
-        Ok(())
+        out.value(found);
     }
 
     /// Closes all.
-    fn close(&mut self, out: &mut String) -> anyhow::Result<()> {
+    fn close(&mut self, out: &mut Answer) {
         self.rows.close_all(None);
         self.push_count(out)
     }
 
     /// A step about one dialogue.
-    fn look(&mut self, verb: &str, local: &str, out: &mut String) -> anyhow::Result<()> {
-        let local = local_of(local)?;
+    fn look(&mut self, verb: &str, local: &str, out: &mut Answer) {
+        let local = identifier_of(local, out);
         match verb {
             "get" => push_birth(out, self.rows.get(local).map(Row::birth)),
             "remove" => self.remove(local, out),
             "after" => push_local(out, self.rows.after(Some(local))),
-            _ => bail!("no step: {verb}"),
+            _ => out.fail("no such step"),
         }
     }
 }
 
 impl Steps for Register {
-    fn step(&mut self, step: &str, out: &mut String) -> anyhow::Result<()> {
+    fn step(&mut self, step: &str, out: &mut Answer) {
         let (verb, rest) = first_word(step);
         match verb {
             "put" => self.put_of(rest, out),
@@ -143,7 +137,7 @@ impl Steps for Register {
 }
 
 /// Writes what the steps of a case answer.
-pub(crate) fn answer(alloc: Global, script: &str, out: &mut String) -> anyhow::Result<()> {
+pub(crate) fn answer(alloc: Global, script: &str, out: &mut Answer) {
     let rows = Rows::new(alloc);
     play(&mut Register { alloc, rows }, script, out)
 }

@@ -67,25 +67,34 @@ mod texts;
 mod watch;
 
 use crate::numbering::{LAST_TAG, LINKS, Numbering, numbering_of};
-use anyhow::bail;
+use cases::Answer;
 use fp_records::Table;
 use fp_steps::{Output, Step};
 use making::Making;
 pub(crate) use random::{answer as answer_random, answer_after as answer_random_after};
 use std::alloc::Global;
 
-/// The outputs of these steps of a run.
+/// The outputs of these steps of a run; none if memory runs out, or if there is no such link or tag, which is a fault of
+/// the answer.
 pub(crate) fn outputs_of(
     alloc: Global,
     tables: &[Table],
     numbering: Numbering,
     steps: &[Step],
-) -> anyhow::Result<Vec<Output>> {
+    out: &mut Answer,
+) -> Vec<Output> {
     let Numbering { link, tag } = numbering;
     if link >= LINKS || tag > LAST_TAG {
-        bail!("no link, or no tag");
+        out.fail("no link, or no tag");
+        return Vec::new(alloc);
     }
-    Ok(fp_steps::run_with_tag(alloc, tables, &[], link, tag, steps)?)
+    match fp_steps::run_with_tag(alloc, tables, &[], link, tag, steps) {
+        Ok(outputs) => outputs,
+        Err(_) => {
+            out.run_out();
+            Vec::new(alloc)
+        }
+    }
 }
 
 /// The steps of a script.
@@ -93,25 +102,21 @@ pub(crate) fn steps_of(
     alloc: Global,
     numbering: Numbering,
     script: &str,
-) -> anyhow::Result<Vec<Step>> {
+    out: &mut Answer,
+) -> Vec<Step> {
     let mut making = Making::new(alloc, numbering);
-    making.add_script(script)?;
-    Ok(making.steps)
+    making.add_script(script, out);
+    making.steps
 }
 
 /// Writes what the steps of a case answer.
-pub(crate) fn answer(
-    alloc: Global,
-    tables: &[Table],
-    case: &str,
-    out: &mut String,
-) -> anyhow::Result<()> {
+pub(crate) fn answer(alloc: Global, tables: &[Table], case: &str, out: &mut Answer) {
     let Some((numbering, script)) = case.split_once(": ") else {
-        bail!("no link");
+        return out.fail("no link");
     };
-    let numbering = numbering_of(numbering)?;
+    let numbering = numbering_of(numbering, out);
     let mut making = Making::new(alloc, numbering);
-    making.add_script(script)?;
-    let outputs = outputs_of(alloc, tables, numbering, making.steps.as_slice())?;
-    texts::push_answers(out, making.parts.as_slice(), outputs.as_slice())
+    making.add_script(script, out);
+    let outputs = outputs_of(alloc, tables, numbering, making.steps.as_slice(), out);
+    texts::push_answers(out, making.parts.as_slice(), outputs.as_slice());
 }

@@ -32,16 +32,13 @@ use crate::held::{
     show,
 };
 use crate::messages::prepared;
-use crate::script::{Steps, play};
-use crate::texts::{NOON, local_of, moment_after, name_of, peer_of, push_dialogue, push_text};
-use anyhow::bail;
-use cases::{first_word, push_octets};
+use crate::texts::{NOON, moment_after, name_of, peer_of, push_dialogue};
+use cases::{Answer, Steps, first_word, identifier_of, number_of, play};
 use fp_digits::Moment;
 use fp_entry::{Entries, Prepared};
 use fp_records::Table;
-use fp_row::{Ending, RequestFrames, Requested, Row};
+use fp_row::{Ending, RequestFrames, Requested, Row, Turn};
 use std::alloc::Global;
-use std::fmt::Write;
 
 /// How many places for frames a link has.
 const ALL_PLACES: usize = 8192;
@@ -69,28 +66,23 @@ struct Tally {
 }
 
 /// A dialogue accepts entries.
-fn accept(row: &mut Row, entries: Entries, out: &mut String) -> anyhow::Result<()> {
+fn accept(row: &mut Row, entries: Entries, out: &mut Answer) {
     let count = entries.len();
-    if row.accept(entries)? {
-        write!(out, "{count}")?;
-    } else {
-        out.push_str("refused")?;
+    match row.accept(entries) {
+        Ok(true) => out.value(count),
+        Ok(false) => out.text("refused"),
+        Err(_) => out.run_out(),
     }
-    Ok(())
 }
 
 /// A dialogue accepts the entries of a message.
-fn accept_message(
-    alloc: Global,
-    row: &mut Row,
-    prepared: &Prepared,
-    out: &mut String,
-) -> anyhow::Result<()> {
-    match prepared {
-        Prepared::Message { incoming, .. } => {
-            accept(row, incoming.entries.try_clone(alloc)?, out)
-        }
-        _ => bail!("no message"),
+fn accept_message(alloc: Global, row: &mut Row, prepared: &Prepared, out: &mut Answer) {
+    let Prepared::Message { incoming, .. } = prepared else {
+        return out.fail("no message");
+    };
+    match incoming.entries.try_clone(alloc) {
+        Ok(entries) => accept(row, entries, out),
+        Err(_) => out.run_out(),
     }
 }
 
@@ -101,151 +93,155 @@ fn post(
     moment: Moment,
     row: &mut Row,
     message: &str,
-    out: &mut String,
-) -> anyhow::Result<()> {
-    let prepared = prepared(alloc, table, moment, message)?;
-    accept_message(alloc, row, &prepared, out)
+    out: &mut Answer,
+) {
+    if let Some(prepared) = prepared(alloc, table, moment, message, out) {
+        accept_message(alloc, row, &prepared, out);
+    }
 }
 
 /// Who ends a dialogue.
-fn ending_of(text: &str) -> anyhow::Result<Ending> {
+fn ending_of(text: &str, out: &mut Answer) -> Ending {
     match text {
-        "peer" => Ok(Ending::ByPeer),
-        "closed" => Ok(Ending::Closed),
-        _ => bail!("no ending: {text}"),
+        "peer" => Ending::ByPeer,
+        "closed" => Ending::Closed,
+        _ => {
+            out.fail("no such ending");
+            Ending::Closed
+        }
     }
 }
 
 /// Writes frames, with a blank before each.
-fn push_frames(out: &mut String, frames: &RequestFrames) -> anyhow::Result<()> {
+fn push_frames(out: &mut Answer, frames: &RequestFrames) {
     for frame in frames.as_slice() {
-        out.push(' ')?;
-        push_octets(out, frame.octets())?;
+        out.character(' ');
+        out.octets(frame.octets());
     }
-    Ok(())
 }
 
 /// Writes what becomes of requests.
-fn push_requested(out: &mut String, requested: &Requested) -> anyhow::Result<()> {
+fn push_requested(out: &mut Answer, requested: &Requested) {
     match requested {
-        Requested::Nothing => out.push_str("nothing")?,
-        Requested::Dropped(count) => write!(out, "dropped {count}")?,
+        Requested::Nothing => out.text("nothing"),
+        Requested::Dropped(count) => out.labeled("dropped ", *count),
         Requested::Frames(frames) => {
-            out.push_str(if frames.len() == 1 { "frame" } else { "frames" })?;
-            push_frames(out, frames)?;
+            out.either(frames.len() == 1, "frame", "frames");
+            push_frames(out, frames);
         }
     }
-    Ok(())
 }
 
-/// How many places are free, from a text, which may say nothing of it.
-fn free_of(text: &str) -> anyhow::Result<usize> {
+/// How many places are free, from a text, which may say nothing of it: then all.
+fn free_of(text: &str, out: &mut Answer) -> usize {
     if text.is_empty() {
-        return Ok(ALL_PLACES);
+        return ALL_PLACES;
     }
-    Ok(text.parse()?)
+    number_of(text, out)
 }
 
 /// Takes the next turn of a dialogue.
-fn take(
-    alloc: Global,
-    row: &mut Row,
-    turns: &mut Vec<Named>,
-    text: &str,
-    out: &mut String,
-) -> anyhow::Result<()> {
+fn take(alloc: Global, row: &mut Row, turns: &mut Vec<Named>, text: &str, out: &mut Answer) {
     let (name, free) = first_word(text);
-    let name = name_of(name)?;
-    let free = free_of(free)?;
+    let name = name_of(name, out);
+    let free = free_of(free, out);
     if free < 1 {
-        bail!("no place is free");
+        return out.fail("no place is free");
     }
-    let Some(turn) = row.take(alloc, free)? else {
-        return push_text(out, "none");
-    };
-    let position = turn.position();
-    let count = turn.count();
-    keep(turns, name, Held::Turn(turn));
-    write!(out, "{position} {count}")?;
-    Ok(())
+    match row.take(alloc, free) {
+        Ok(Some(turn)) => {
+            out.value(turn.position());
+            out.labeled(" ", turn.count());
+            keep(turns, name, Held::Turn(turn));
+        }
+        Ok(None) => out.text("none"),
+        Err(_) => out.run_out(),
+    }
 }
 
 /// Serves the next turn of a dialogue in its place.
-fn serve_in_place(
-    alloc: Global,
-    row: &mut Row,
-    free: &str,
-    out: &mut String,
-) -> anyhow::Result<()> {
-    let free = free_of(free)?;
+fn serve_in_place(alloc: Global, row: &mut Row, free: &str, out: &mut Answer) {
+    let free = free_of(free, out);
     if free < 1 {
-        bail!("no place is free");
+        return out.fail("no place is free");
     }
-    let Some(turn) = row.serve_next(alloc, free)? else {
-        return push_text(out, "none");
-    };
-    write!(out, "{} {} ", turn.position, turn.count)?;
-    push_served_count(out, turn.served)?;
-    push_requested(out, &turn.requested)
+    match row.serve_next(alloc, free) {
+        Ok(Some(turn)) => {
+            out.value(turn.position);
+            out.labeled(" ", turn.count);
+            out.text(" ");
+            push_served_count(out, turn.served);
+            push_requested(out, &turn.requested);
+        }
+        Ok(None) => out.text("none"),
+        Err(_) => out.run_out(),
+    }
 }
 
 /// Gives a turn to a dialogue.
-fn give(
-    alloc: Global,
-    row: &mut Row,
-    turns: &mut Vec<Named>,
-    name: &str,
-    out: &mut String,
-) -> anyhow::Result<()> {
-    let name = name_of(name)?;
-    let done = find_served(alloc, turns, name)?;
+fn give(alloc: Global, row: &mut Row, turns: &mut Vec<Named>, name: &str, out: &mut Answer) {
+    let name = name_of(name, out);
+    let Some(done) = find_served(alloc, turns, name, out) else {
+        return;
+    };
     let count = done.served();
     match row.give(done) {
         Ok(requested) => {
-            push_served_count(out, count)?;
+            push_served_count(out, count);
             push_requested(out, &requested)
         }
         Err(done) => {
             keep(turns, name, Held::Done(done));
-            push_text(out, "strange")
+            out.text("strange")
         }
     }
 }
 
 /// Puts a turn back.
-fn put_back(
-    row: &mut Row,
-    turns: &mut Vec<Named>,
-    name: &str,
-    out: &mut String,
-) -> anyhow::Result<()> {
-    let name = name_of(name)?;
-    let held = match find(turns, name)? {
-        Held::Turn(turn) => match row.put_back(turn) {
-            Ok(()) => return push_text(out, "back"),
-            Err(turn) => Held::Turn(turn),
+fn put_back(row: &mut Row, turns: &mut Vec<Named>, name: &str, out: &mut Answer) {
+    let name = name_of(name, out);
+    match find(turns, name, out) {
+        Some(Held::Turn(turn)) => match row.put_back(turn) {
+            Ok(()) => out.text("back"),
+            Err(turn) => {
+                keep(turns, name, Held::Turn(turn));
+                out.text("strange");
+            }
         },
-        held => held,
+        Some(held) => {
+            keep(turns, name, held);
+            out.text("strange");
+        }
+        None => {}
+    }
+}
+
+/// Serves and gives a turn of a dialogue, and counts what it comes to.
+fn serve_turn(alloc: Global, row: &mut Row, turn: Turn, tally: &mut Tally, out: &mut Answer) {
+    let Some(done) = served(alloc, turn, out) else {
+        return;
     };
-    keep(turns, name, held);
-    push_text(out, "strange")
+    let count = done.served();
+    match row.give(done) {
+        Ok(requested) => tally.count(count, requested),
+        Err(done) => {
+            done.abandon();
+            out.fail("a turn came back");
+        }
+    }
 }
 
 /// Takes, serves and gives the next turn of a dialogue, and counts what it comes to. `false`: there is no turn.
-fn serve_next(alloc: Global, row: &mut Row, tally: &mut Tally) -> anyhow::Result<bool> {
-    let Some(turn) = row.take(alloc, ALL_PLACES)? else {
-        return Ok(false);
-    };
-    let done = served(alloc, turn)?;
-    let count = done.served();
-    match row.give(done) {
-        Ok(requested) => {
-            tally.count(count, requested);
-            Ok(true)
+fn serve_next(alloc: Global, row: &mut Row, tally: &mut Tally, out: &mut Answer) -> bool {
+    match row.take(alloc, ALL_PLACES) {
+        Ok(Some(turn)) => {
+            serve_turn(alloc, row, turn, tally, out);
+            true
         }
-        Err(done) => {
-            done.abandon();
-            bail!("a turn came back");
+        Ok(None) => false,
+        Err(_) => {
+            out.run_out();
+            false
         }
     }
 }
@@ -263,39 +259,40 @@ impl Tally {
 }
 
 /// Takes and gives the turns of a dialogue one after the other, at most a thousand.
-fn serve_each(alloc: Global, row: &mut Row, tally: &mut Tally) -> anyhow::Result<()> {
+fn serve_each(alloc: Global, row: &mut Row, tally: &mut Tally, out: &mut Answer) {
     for _ in 0..1000 {
-        if !serve_next(alloc, row, tally)? {
-            break;
+        if !serve_next(alloc, row, tally, out) {
+            return;
         }
     }
-    Ok(())
 }
 
 /// Writes the last of the frames that are to be sent.
-fn push_last(out: &mut String, requested: &Requested) -> anyhow::Result<()> {
+fn push_last(out: &mut Answer, requested: &Requested) {
     let last = match requested {
         Requested::Frames(frames) => frames.as_slice().last(),
         Requested::Nothing | Requested::Dropped(_) => None,
     };
     let Some(frame) = last else {
-        return push_text(out, "no frame");
+        return out.text("no frame");
     };
-    out.push_str("frame ")?;
-    push_octets(out, frame.octets())
+    out.text("frame ");
+    out.octets(frame.octets())
 }
 
 /// Takes and gives the turns of a dialogue one after the other.
-fn each(alloc: Global, row: &mut Row, out: &mut String) -> anyhow::Result<()> {
+fn each(alloc: Global, row: &mut Row, out: &mut Answer) {
     let mut tally = Tally {
         turns: 0,
         served: 0,
         frames: 0,
         last: Requested::Nothing,
     };
-    serve_each(alloc, row, &mut tally)?;
-    write!(out, "{} turns, {} served, ", tally.turns, tally.served)?;
-    write!(out, "{} frames, ", tally.frames)?;
+    serve_each(alloc, row, &mut tally, out);
+    out.value(tally.turns);
+    out.labeled(" turns, ", tally.served);
+    out.labeled(" served, ", tally.frames);
+    out.text(" frames, ");
     push_last(out, &tally.last)
 }
 
@@ -312,62 +309,64 @@ fn words_of(row: &Row) -> &'static str {
 }
 
 /// Writes what a dialogue is.
-fn push_state(out: &mut String, row: &Row) -> anyhow::Result<()> {
-    write!(out, "{}, {} places, ", words_of(row), row.places_taken())?;
+fn push_state(out: &mut Answer, row: &Row) {
+    out.text(words_of(row));
+    out.labeled(", ", row.places_taken());
+    out.text(" places, ");
     match row.deadline() {
-        Some(deadline) => write!(out, "due {}", deadline.saturating_sub(NOON))?,
-        None => out.push_str("no deadline")?,
+        Some(deadline) => out.labeled("due ", deadline.saturating_sub(NOON)),
+        None => out.text("no deadline"),
     }
-    Ok(())
 }
 
 /// A dialogue is given a Clock.
-fn clock(row: &mut Row, moment: Moment, out: &mut String) -> anyhow::Result<()> {
-    let is_due = row.accept_clock(moment)?;
-    push_text(out, if is_due { "due" } else { "not due" })
+fn clock(row: &mut Row, moment: Moment, out: &mut Answer) {
+    match row.accept_clock(moment) {
+        Ok(is_due) => out.either(is_due, "due", "not due"),
+        Err(_) => out.run_out(),
+    }
 }
 
 /// One more frame of a dialogue was sent.
-fn sent(row: &mut Row, out: &mut String) -> anyhow::Result<()> {
-    push_text(out, if row.sent() { "sent" } else { "none" })
+fn sent(row: &mut Row, out: &mut Answer) {
+    out.either(row.sent(), "sent", "none")
 }
 
 /// A dialogue is ended, while a frame of it is being sent if a text says more than who ends it.
-fn end(row: &mut Row, text: &str, out: &mut String) -> anyhow::Result<()> {
+fn end(row: &mut Row, text: &str, out: &mut Answer) {
     let (ending, sending) = first_word(text);
-    row.end(ending_of(ending)?, !sending.is_empty());
-    push_text(out, "ended")
+    row.end(ending_of(ending, out), !sending.is_empty());
+    out.text("ended")
 }
 
 impl Scene<'_> {
     /// Opens a dialogue.
-    fn open(&mut self, text: &str, out: &mut String) -> anyhow::Result<()> {
+    fn open(&mut self, text: &str, out: &mut Answer) {
         let (local, rest) = first_word(text);
         let (peer, birth) = first_word(rest);
-        let local = local_of(local)?;
-        let peer = peer_of(peer)?;
-        let row = Row::open(self.alloc, local, peer, birth.parse()?, self.moment);
+        let local = identifier_of(local, out);
+        let peer = peer_of(peer, out);
+        let row = Row::open(self.alloc, local, peer, number_of(birth, out), self.moment);
         self.place = self.rows.len();
-        self.rows.push(row)?;
-        push_text(out, "opened")
+        out.push(&mut self.rows, row);
+        out.text("opened")
     }
 
     /// Goes to a dialogue, and writes which it is.
-    fn go(&mut self, number: &str, out: &mut String) -> anyhow::Result<()> {
-        let number: usize = number.parse()?;
+    fn go(&mut self, number: &str, out: &mut Answer) {
+        let number: usize = number_of(number, out);
         self.place = number.saturating_sub(1);
         match self.rows.get(self.place) {
             Some(row) => push_dialogue(out, row.local(), row.peer(), row.birth()),
-            None => bail!("no dialogue"),
+            None => out.fail("no dialogue"),
         }
     }
 
     /// It is this number of milliseconds after noon now.
-    fn wait(&mut self, milliseconds: &str, out: &mut String) -> anyhow::Result<()> {
-        let milliseconds: u32 = milliseconds.parse()?;
-        self.moment = moment_after(milliseconds)?;
-        write!(out, "{milliseconds}")?;
-        Ok(())
+    fn wait(&mut self, milliseconds: &str, out: &mut Answer) {
+        let milliseconds: u32 = number_of(milliseconds, out);
+        self.moment = moment_after(milliseconds);
+        out.value(milliseconds);
     }
 
     /// Spends the turns that are out.
@@ -384,10 +383,10 @@ impl Scene<'_> {
     }
 
     /// A step about a dialogue.
-    fn row_step(&mut self, verb: &str, rest: &str, out: &mut String) -> anyhow::Result<()> {
+    fn row_step(&mut self, verb: &str, rest: &str, out: &mut Answer) {
         let (alloc, moment) = (self.alloc, self.moment);
         let Some(row) = self.rows.get_mut(self.place) else {
-            bail!("no dialogue");
+            return out.fail("no dialogue");
         };
         match verb {
             "post" => post(alloc, self.table, moment, row, rest, out),
@@ -400,13 +399,13 @@ impl Scene<'_> {
             "clock" => clock(row, moment, out),
             "sent" => sent(row, out),
             "end" => end(row, rest, out),
-            _ => bail!("no step: {verb}"),
+            _ => out.fail("no such step"),
         }
     }
 }
 
 impl Steps for Scene<'_> {
-    fn step(&mut self, step: &str, out: &mut String) -> anyhow::Result<()> {
+    fn step(&mut self, step: &str, out: &mut Answer) {
         let (verb, rest) = first_word(step);
         match verb {
             "row" => self.open(rest, out),
@@ -421,13 +420,8 @@ impl Steps for Scene<'_> {
 }
 
 /// Writes what the steps of a case answer.
-pub(crate) fn answer(
-    alloc: Global,
-    table: &Table,
-    script: &str,
-    out: &mut String,
-) -> anyhow::Result<()> {
-    let moment = moment_after(0)?;
+pub(crate) fn answer(alloc: Global, table: &Table, script: &str, out: &mut Answer) {
+    let moment = moment_after(0);
     let mut scene = Scene {
         alloc,
         table,
@@ -436,7 +430,6 @@ pub(crate) fn answer(
         moment,
         turns: Vec::new(alloc),
     };
-    let answered = play(&mut scene, script, out);
+    play(&mut scene, script, out);
     scene.abandon();
-    answered
 }

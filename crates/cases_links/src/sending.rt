@@ -16,16 +16,14 @@ mod gathered;
 
 use crate::devices::Pieces;
 use crate::memory::{Call, Desk};
-use anyhow::{bail, ensure};
 use bytes::Bytes;
-use cases::{first_word, push_octets};
+use cases::{Answer, first_word, number_of};
 use fp_book::{Book, Posted};
 use fp_digits::Moment;
 use fp_entry::Prepared;
 use fp_frames::Frame;
 use fp_linkio::{Counted, Ended, LinkWrite, send_loop};
 use std::alloc::Global;
-use std::fmt::Write;
 
 /// The octets of a Begin up to the peer's identifier.
 const BEGIN: [u8; 4] = [0x62, 0x06, 0x48, 0x04];
@@ -33,39 +31,37 @@ const BEGIN: [u8; 4] = [0x62, 0x06, 0x48, 0x04];
 /// More parcels than any case has.
 const MANY: u64 = 1_000_000;
 
-/// A Begin of the peer's identifier that was lost.
-fn lost(alloc: Global, identifier: u32) -> anyhow::Result<Prepared> {
+/// A Begin of the peer's identifier that was lost. `None` if memory runs out.
+fn lost(alloc: Global, identifier: u32) -> Option<Prepared> {
     let [a, b, c, d] = identifier.to_be_bytes();
     let [e, f, g, h] = BEGIN;
-    let message = Bytes::copy_from_slice(alloc, &[e, f, g, h, a, b, c, d])?;
-    let (Some(frame), Some(moment)) = (Frame::new(message), Moment::new(0)) else {
-        bail!("no frame");
-    };
-    Ok(Prepared::lost(frame, moment))
+    let message = Bytes::copy_from_slice(alloc, &[e, f, g, h, a, b, c, d]).ok()?;
+    let frame = Frame::new(message)?;
+    Some(Prepared::lost(frame, Moment::new(0)?))
 }
 
 /// Posts the lost Begin of an identifier, for which an Abort waits then.
-fn post(alloc: Global, book: &mut Book, identifier: u32) -> anyhow::Result<()> {
-    let Posted::Aborted(_) = book.post(alloc, lost(alloc, identifier)?) else {
-        bail!("no Abort");
+fn post(alloc: Global, book: &mut Book, identifier: u32, out: &mut Answer) {
+    let Some(lost) = lost(alloc, identifier) else {
+        return out.run_out();
     };
-    Ok(())
+    let Posted::Aborted(_) = book.post(alloc, lost) else {
+        return out.fail("no Abort");
+    };
 }
 
-/// A book in which this many Aborts wait.
-fn book(alloc: Global, aborts: u32) -> anyhow::Result<Book> {
-    let mut book = Book::new(alloc, 0)?;
+/// An outlet in which this many Aborts wait. `None` if memory runs out, which is a fault of the answer.
+fn desk(alloc: Global, aborts: u32, is_strange: bool, out: &mut Answer) -> Option<Desk> {
+    let Ok(mut book) = Book::new(alloc, 0) else {
+        out.run_out();
+        return None;
+    };
     for number in 0..aborts {
-        post(alloc, &mut book, number.saturating_add(1))?;
+        post(alloc, &mut book, number.saturating_add(1), out);
     }
-    Ok(book)
-}
-
-/// An outlet in which this many Aborts wait.
-fn desk(alloc: Global, aborts: u32, is_strange: bool) -> anyhow::Result<Desk> {
-    Ok(Desk {
+    Some(Desk {
         alloc,
-        book: book(alloc, aborts)?,
+        book,
         is_strange,
         calls: Vec::new(alloc),
         is_whole: true,
@@ -85,92 +81,92 @@ fn writer(alloc: Global, most: usize, failing: u32, takes_none: bool) -> Counted
 }
 
 /// Writes a call of an outlet about a parcel.
-fn push_parcel(out: &mut String, name: &str, local: u32, octets: &[u8]) -> anyhow::Result<()> {
-    write!(out, "{name} {local} ")?;
-    push_octets(out, octets)
+fn push_parcel(out: &mut Answer, name: &str, local: u32, octets: &[u8]) {
+    out.text(name);
+    out.labeled(" ", local);
+    out.text(" ");
+    out.octets(octets);
 }
 
 /// Writes a call of an outlet.
-fn push_call(out: &mut String, call: &Call) -> anyhow::Result<()> {
+fn push_call(out: &mut Answer, call: &Call) {
     match call {
         Call::Picked(local, octets) => push_parcel(out, "pick", *local, octets.as_slice()),
-        Call::NoMore => Ok(out.push_str("no more")?),
+        Call::NoMore => out.text("no more"),
         Call::Sent(local, octets) => push_parcel(out, "sent", *local, octets.as_slice()),
         Call::Unsent(local, octets) => push_parcel(out, "unsent", *local, octets.as_slice()),
     }
 }
 
 /// Writes the calls that were made of an outlet, or `no call`.
-fn push_calls(out: &mut String, calls: &[Call]) -> anyhow::Result<()> {
+fn push_calls(out: &mut Answer, calls: &[Call]) {
     for call in calls {
-        if !out.is_empty() {
-            out.push_str(", ")?;
-        }
-        push_call(out, call)?;
+        out.separator(", ");
+        push_call(out, call);
     }
     if calls.is_empty() {
-        out.push_str("no call")?;
+        out.text("no call");
     }
-    Ok(())
 }
 
 /// Writes what a writer took, and how often it failed.
-fn push_writer(out: &mut String, writer: &Counted<Pieces>) -> anyhow::Result<()> {
-    push_octets(out, writer.device.octets.as_slice())?;
+fn push_writer(out: &mut Answer, writer: &Counted<Pieces>) {
+    out.octets(writer.device.octets.as_slice());
     let made = writer.device.made;
-    Ok(write!(out, " in {made} writes, {} failed", writer.failed)?)
+    out.labeled(" in ", made);
+    out.labeled(" writes, ", writer.failed);
+    out.text(" failed");
 }
 
 /// Writes a link, and to `out` the calls that were made of the outlet, and why the loop ended.
-fn push_loop<W: LinkWrite>(
-    desk: &mut Desk,
-    turns: u64,
-    writer: &mut W,
-    out: &mut String,
-) -> anyhow::Result<()> {
+fn push_loop<W: LinkWrite>(desk: &mut Desk, turns: u64, writer: &mut W, out: &mut Answer) {
     let ended = send_loop(writer, turns, desk);
-    ensure!(desk.is_whole, "out of memory");
-    push_calls(out, desk.calls.as_slice())?;
-    Ok(write!(out, ": {ended:?}; ")?)
+    if !desk.is_whole {
+        out.run_out();
+    }
+    push_calls(out, desk.calls.as_slice());
+    out.text(": ");
+    out.shown(&ended);
+    out.text("; ");
 }
 
 /// Writes a link, and to `out` what that gives.
-fn push_sending(
-    desk: &mut Desk,
-    turns: u64,
-    writer: &mut Counted<Pieces>,
-    out: &mut String,
-) -> anyhow::Result<()> {
-    push_loop(desk, turns, writer, out)?;
+fn push_sending(desk: &mut Desk, turns: u64, writer: &mut Counted<Pieces>, out: &mut Answer) {
+    push_loop(desk, turns, writer, out);
     push_writer(out, writer)
 }
 
 /// The writer that fails, or takes none, at a write.
-fn failing_writer(alloc: Global, most: usize, failing: &str) -> anyhow::Result<Counted<Pieces>> {
+fn failing_writer(alloc: Global, most: usize, failing: &str, out: &mut Answer) -> Counted<Pieces> {
     match failing.strip_prefix("none-at-") {
-        Some(number) => Ok(writer(alloc, most, number.parse()?, true)),
-        None => Ok(writer(alloc, most, failing.parse()?, false)),
+        Some(number) => writer(alloc, most, number_of(number, out), true),
+        None => writer(alloc, most, number_of(failing, out), false),
     }
 }
 
 /// What writing a link gives, with a writer that fails or takes none once.
-fn send(alloc: Global, text: &str, out: &mut String) -> anyhow::Result<()> {
+fn send(alloc: Global, text: &str, out: &mut Answer) {
     let (aborts, text) = first_word(text);
     let (turns, text) = first_word(text);
     let (most, failing) = first_word(text);
-    let turns: u64 = turns.parse()?;
-    let mut writer = failing_writer(alloc, most.parse()?, failing)?;
-    let mut desk = desk(alloc, aborts.parse()?, false)?;
-    push_sending(&mut desk, turns, &mut writer, out)
+    let turns: u64 = number_of(turns, out);
+    let most: usize = number_of(most, out);
+    let aborts: u32 = number_of(aborts, out);
+    let mut writer = failing_writer(alloc, most, failing, out);
+    if let Some(mut desk) = desk(alloc, aborts, false, out) {
+        push_sending(&mut desk, turns, &mut writer, out);
+    }
 }
 
 /// What writing a link gives if each report comes back.
-fn send_strange(alloc: Global, text: &str, out: &mut String) -> anyhow::Result<()> {
+fn send_strange(alloc: Global, text: &str, out: &mut Answer) {
     let (aborts, turns) = first_word(text);
-    let turns: u64 = turns.parse()?;
-    let mut desk = desk(alloc, aborts.parse()?, true)?;
+    let turns: u64 = number_of(turns, out);
+    let aborts: u32 = number_of(aborts, out);
     let mut writer = writer(alloc, 65_536, 0, false);
-    push_sending(&mut desk, turns, &mut writer, out)
+    if let Some(mut desk) = desk(alloc, aborts, true, out) {
+        push_sending(&mut desk, turns, &mut writer, out);
+    }
 }
 
 /// How many parcels were reported sent, and how many unsent.
@@ -188,13 +184,22 @@ fn reports(calls: &[Call]) -> (u32, u32) {
     (sent, unsent)
 }
 
+/// Writes a link with this many Aborts to a device that takes one octet a write.
+fn write_whole(alloc: Global, aborts: u32, writer: &mut Counted<Pieces>, out: &mut Answer) {
+    let Some(mut desk) = desk(alloc, aborts, false, out) else {
+        return;
+    };
+    let ended = send_loop(writer, MANY, &mut desk);
+    if ended != Ended::EndOfInput {
+        out.fail("the whole isn't written");
+    }
+}
+
 /// The octets that are written of this many Aborts.
-fn whole(alloc: Global, aborts: u32) -> anyhow::Result<Vec<u8>> {
-    let mut desk = desk(alloc, aborts, false)?;
+fn whole(alloc: Global, aborts: u32, out: &mut Answer) -> Vec<u8> {
     let mut writer = writer(alloc, 1, 0, false);
-    let ended = send_loop(&mut writer, MANY, &mut desk);
-    ensure!(ended == Ended::EndOfInput, "{ended:?}");
-    Ok(writer.device.octets)
+    write_whole(alloc, aborts, &mut writer, out);
+    writer.device.octets
 }
 
 /// How writing a link ended.
@@ -206,44 +211,28 @@ struct Outcome {
     failed: u64,
 }
 
-/// Fails unless this is the outcome of a write that fails.
-fn expect_fault(outcome: Outcome, failing: u32) -> anyhow::Result<()> {
-    ensure!(
-        outcome.ended == Ended::WriteFault && outcome.failed == 1,
-        "write {failing}: {:?}",
-        outcome.ended
-    );
-    ensure!(
-        outcome.unsent == 1,
-        "write {failing}: {} unsent",
-        outcome.unsent
-    );
-    ensure!(outcome.made == failing, "write {failing}: more writes");
-    Ok(())
-}
-
-/// Fails unless this is the outcome of writes of which none fails.
-fn expect_end(outcome: Outcome, failing: u32) -> anyhow::Result<()> {
-    ensure!(
-        outcome.ended == Ended::EndOfInput && outcome.failed == 0,
-        "write {failing}: {:?}",
-        outcome.ended
-    );
-    ensure!(
-        outcome.unsent == 0,
-        "write {failing}: {} unsent",
-        outcome.unsent
-    );
-    Ok(())
-}
-
-/// Fails unless the octets that were written are a front of all, and the outcome is the one of that front.
-fn expect(written: &[u8], octets: &[u8], outcome: Outcome, failing: u32) -> anyhow::Result<()> {
-    ensure!(octets.starts_with(written), "write {failing}: other octets");
-    if written.len() < octets.len() {
-        return expect_fault(outcome, failing);
+impl Outcome {
+    /// Whether this is the outcome of a write that fails.
+    fn is_fault(self, failing: u32) -> bool {
+        self.ended == Ended::WriteFault
+            && self.failed == 1
+            && self.unsent == 1
+            && self.made == failing
     }
-    expect_end(outcome, failing)
+
+    /// Whether this is the outcome of writes of which none fails.
+    fn is_end(self) -> bool {
+        self.ended == Ended::EndOfInput && self.failed == 0 && self.unsent == 0
+    }
+
+    /// Whether the octets that were written are a front of all, and this is the outcome of that front.
+    fn is_of(self, written: &[u8], octets: &[u8], failing: u32) -> bool {
+        if written.len() < octets.len() {
+            octets.starts_with(written) && self.is_fault(failing)
+        } else {
+            octets == written && self.is_end()
+        }
+    }
 }
 
 /// Writes how many parcels were reported sent by the loop that ended so, if this write fails.
@@ -253,8 +242,8 @@ fn push_sent(
     ended: Ended,
     failing: u32,
     octets: &[u8],
-    out: &mut String,
-) -> anyhow::Result<()> {
+    out: &mut Answer,
+) {
     let (sent, unsent) = reports(desk.calls.as_slice());
     let outcome = Outcome {
         ended,
@@ -262,57 +251,48 @@ fn push_sent(
         made: writer.device.made,
         failed: writer.failed,
     };
-    expect(writer.device.octets.as_slice(), octets, outcome, failing)?;
-    Ok(write!(out, "{sent}")?)
+    if !outcome.is_of(writer.device.octets.as_slice(), octets, failing) {
+        return out.labeled(", wrong at write ", failing);
+    }
+    out.value(sent);
 }
 
 /// Writes how many parcels were reported sent if this write of one octet fails.
-fn push_failing(
-    alloc: Global,
-    aborts: u32,
-    failing: u32,
-    octets: &[u8],
-    out: &mut String,
-) -> anyhow::Result<()> {
-    let mut desk = desk(alloc, aborts, false)?;
+fn push_failing(alloc: Global, aborts: u32, failing: u32, octets: &[u8], out: &mut Answer) {
     let mut writer = writer(alloc, 1, failing, false);
+    let Some(mut desk) = desk(alloc, aborts, false, out) else {
+        return;
+    };
     let ended = send_loop(&mut writer, MANY, &mut desk);
     push_sent(&desk, &writer, ended, failing, octets, out)
 }
 
 /// Writes how many parcels were reported sent if each write fails in turn.
-fn push_faults(alloc: Global, aborts: u32, octets: &[u8], out: &mut String) -> anyhow::Result<()> {
+fn push_faults(alloc: Global, aborts: u32, octets: &[u8], out: &mut Answer) {
     let mut failing: u32 = 0;
     for _ in 0..=octets.len() {
         failing = failing.saturating_add(1);
-        push_failing(alloc, aborts, failing, octets, out)?;
+        push_failing(alloc, aborts, failing, octets, out);
     }
-    Ok(())
 }
 
 /// How many parcels were reported sent if each write fails in turn.
-fn faults(alloc: Global, text: &str, out: &mut String) -> anyhow::Result<()> {
-    let aborts: u32 = text.parse()?;
-    let octets = whole(alloc, aborts)?;
+fn faults(alloc: Global, text: &str, out: &mut Answer) {
+    let aborts: u32 = number_of(text, out);
+    let octets = whole(alloc, aborts, out);
     push_faults(alloc, aborts, octets.as_slice(), out)
 }
 
 /// Writes what a case of this module gives, and says whether it has one of this kind.
-pub(crate) fn answer(
-    alloc: Global,
-    kind: &str,
-    rest: &str,
-    out: &mut String,
-) -> anyhow::Result<bool> {
-    let written = match kind {
+pub(crate) fn answer(alloc: Global, kind: &str, rest: &str, out: &mut Answer) -> bool {
+    match kind {
         "send" => send(alloc, rest, out),
         "send-strange" => send_strange(alloc, rest, out),
         "send-faults" => faults(alloc, rest, out),
         "gathered" => gathered::send(alloc, rest, out),
         "gathered-faults" => gathered::faults(alloc, rest, out),
         "gathered-writes" => gathered::writes(alloc, rest, out),
-        _ => return Ok(false),
-    };
-    written?;
-    Ok(true)
+        _ => return false,
+    }
+    true
 }

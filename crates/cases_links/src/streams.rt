@@ -9,234 +9,189 @@
 ghost use Rattle.std.specs.Prelude.{◌≤◌, length};
 
 use crate::texts::push_message;
-use anyhow::{bail, ensure};
-use cases::{octets_of, push_octets};
+use cases::{Answer, number_of, octets_of};
 use fp_frames::{FrameFault, FrameReader, frame_head};
-use std::alloc::Global;
-use std::fmt::Write;
+use std::alloc::{AllocError, Global};
 
 /// Writes that there is no frame, which must be so again.
-fn push_none(out: &mut String, reader: &mut FrameReader) -> anyhow::Result<()> {
+fn push_none(out: &mut Answer, reader: &mut FrameReader) {
     match reader.next() {
-        Ok(None) => Ok(out.push_str("none")?),
-        _ => bail!("another answer at once"),
+        Ok(None) => out.text("none"),
+        _ => out.fail("another answer at once"),
     }
 }
 
 /// Writes a fault, which must come again.
-fn push_fault(out: &mut String, reader: &mut FrameReader, fault: FrameFault) -> anyhow::Result<()> {
+fn push_fault(out: &mut Answer, reader: &mut FrameReader, fault: FrameFault) {
     match reader.next() {
-        Err(again) if again == fault => Ok(write!(out, "{fault}")?),
-        _ => bail!("another answer at once"),
+        Err(again) if again == fault => out.value(fault),
+        _ => out.fail("another answer at once"),
     }
 }
 
 /// Writes what asking for frames gives, until it gives none.
-fn push_all(out: &mut String, reader: &mut FrameReader) -> anyhow::Result<()> {
+fn push_all(out: &mut Answer, reader: &mut FrameReader) {
     for _ in 0..u32::MAX {
         match reader.next() {
-            Ok(Some(frame)) => push_octets(out, frame.octets())?,
+            Ok(Some(frame)) => out.octets(frame.octets()),
             Ok(None) => return push_none(out, reader),
             Err(fault) => return push_fault(out, reader, fault),
         }
-        out.push_str(", ")?;
+        out.text(", ");
     }
-    bail!("no end")
+}
+
+/// Feeds octets.
+fn feed_octets(reader: &mut FrameReader, octets: &[u8], out: &mut Answer) {
+    out.note(reader.feed(octets));
 }
 
 /// Feeds a piece, and writes what asking for frames gives then.
-fn push_piece(
-    alloc: Global,
-    reader: &mut FrameReader,
-    piece: &str,
-    out: &mut String,
-) -> anyhow::Result<()> {
-    if !out.is_empty() {
-        out.push_str("; ")?;
-    }
-    let octets = octets_of(alloc, piece)?;
-    reader.feed(octets.as_slice())?;
-    push_all(out, reader)
-}
-
-/// Feeds pieces, and writes what asking for frames gives after each.
-fn push_pieces(
-    alloc: Global,
-    reader: &mut FrameReader,
-    pieces: &str,
-    out: &mut String,
-) -> anyhow::Result<()> {
-    for piece in pieces.split(' ') {
-        push_piece(alloc, reader, piece, out)?;
-    }
-    if reader.is_empty() {
-        out.push_str("; all handed out")?;
-    }
-    Ok(())
+fn push_piece(alloc: Global, reader: &mut FrameReader, piece: &str, out: &mut Answer) {
+    out.separator("; ");
+    let octets = octets_of(alloc, piece, out);
+    feed_octets(reader, octets.as_slice(), out);
+    push_all(out, reader);
 }
 
 /// What asking for frames gives after each piece.
-fn stream(alloc: Global, pieces: &str, out: &mut String) -> anyhow::Result<()> {
+fn stream(alloc: Global, pieces: &str, out: &mut Answer) {
     let mut reader = FrameReader::new(alloc);
-    push_pieces(alloc, &mut reader, pieces, out)
+    for piece in pieces.split(' ') {
+        push_piece(alloc, &mut reader, piece, out);
+    }
+    if reader.is_empty() {
+        out.text("; all handed out");
+    }
 }
 
 /// Feeds a piece, and writes the messages of the frames that are whole then.
-fn feed(reader: &mut FrameReader, piece: &[u8], out: &mut String) -> anyhow::Result<()> {
-    reader.feed(piece)?;
+fn feed(reader: &mut FrameReader, piece: &[u8], out: &mut Answer) {
+    feed_octets(reader, piece, out);
     for _ in 0..u32::MAX {
-        let Some(frame) = reader.next()? else {
-            return Ok(());
-        };
-        push_message(out, frame.octets())?;
+        match reader.next() {
+            Ok(Some(frame)) => push_message(out, frame.octets()),
+            Ok(None) => return,
+            Err(_) => return out.fail("no frames"),
+        }
     }
-    bail!("no end")
 }
 
 /// Feeds octets that are cut at two places, and writes the messages of the frames that are whole then.
-fn feed_cut(
-    reader: &mut FrameReader,
-    octets: &[u8],
-    first: usize,
-    second: usize,
-    out: &mut String,
-) -> anyhow::Result<()>
+fn feed_cut(reader: &mut FrameReader, octets: &[u8], first: usize, second: usize, out: &mut Answer)
     requires rises { first ≤ second }
     requires fits { second ≤ length octets.now }
 {
-    feed(reader, &octets[..first], out)?;
-    feed(reader, &octets[first..second], out)?;
-    feed(reader, &octets[second..], out)
+    feed(reader, &octets[..first], out);
+    feed(reader, &octets[first..second], out);
+    feed(reader, &octets[second..], out);
 }
 
-/// The messages of octets that are cut at two places.
-fn cut_text(alloc: Global, octets: &[u8], first: usize, second: usize) -> anyhow::Result<String>
+/// Whether octets that are cut at these two places have these messages.
+fn is_same(alloc: Global, octets: &[u8], first: usize, second: usize, wanted: &Answer) -> bool
     requires rises { first ≤ second }
     requires fits { second ≤ length octets.now }
 {
-    let mut text = String::new(alloc);
     let mut reader = FrameReader::new(alloc);
-    feed_cut(&mut reader, octets, first, second, &mut text)?;
-    Ok(text)
+    let mut text = Answer::new(alloc);
+    feed_cut(&mut reader, octets, first, second, &mut text);
+    !text.is_faulty() && text.as_str() == wanted.as_str()
 }
 
-/// Feeds octets one by one, and writes the messages of the frames that are whole then.
-fn feed_each(reader: &mut FrameReader, octets: &[u8], out: &mut String) -> anyhow::Result<()> {
+/// Writes the messages of octets that come one by one.
+fn feed_each(alloc: Global, octets: &[u8], out: &mut Answer) {
+    let mut reader = FrameReader::new(alloc);
     for piece in octets.chunks(1) {
-        feed(reader, piece, out)?;
+        feed(&mut reader, piece, out);
     }
-    Ok(())
-}
-
-/// The messages of octets that come one by one.
-fn one_by_one_text(alloc: Global, octets: &[u8]) -> anyhow::Result<String> {
-    let mut text = String::new(alloc);
-    let mut reader = FrameReader::new(alloc);
-    feed_each(&mut reader, octets, &mut text)?;
-    Ok(text)
-}
-
-/// Fails if octets that are cut at these two places have other messages.
-fn compare(
-    alloc: Global,
-    octets: &[u8],
-    first: usize,
-    second: usize,
-    wanted: &str,
-) -> anyhow::Result<()>
-    requires rises { first ≤ second }
-    requires fits { second ≤ length octets.now }
-{
-    let given = cut_text(alloc, octets, first, second)?;
-    ensure!(
-        given.as_str() == wanted,
-        "cut at {first} and {second}: {given}"
-    );
-    Ok(())
-}
-
-/// The number of ways to cut octets, each of which gives these messages.
-fn ways(alloc: Global, octets: &[u8], wanted: &str) -> anyhow::Result<u32> {
-    let mut ways: u32 = 1;
-    for second in 0..octets.len() {
-        for first in 0..second {
-            compare(alloc, octets, first, second, wanted)?;
-            ways = ways.saturating_add(1);
-        }
-    }
-    Ok(ways)
 }
 
 /// Writes these messages of octets, and in how many ways of cutting they are the same.
-fn push_ways(alloc: Global, octets: &[u8], wanted: &str, out: &mut String) -> anyhow::Result<()> {
-    let ways = ways(alloc, octets, wanted)?;
-    Ok(write!(out, "{wanted}: {ways} ways")?)
-}
-
-/// Writes the messages of octets, however they are cut.
-fn push_cuts(alloc: Global, octets: &[u8], out: &mut String) -> anyhow::Result<()> {
-    let wanted = one_by_one_text(alloc, octets)?;
-    push_ways(alloc, octets, wanted.as_str(), out)
+fn push_ways(alloc: Global, octets: &[u8], wanted: &Answer, out: &mut Answer) {
+    let mut ways: u32 = 1;
+    for second in 0..octets.len() {
+        for first in 0..second {
+            if !is_same(alloc, octets, first, second, wanted) {
+                out.labeled("other messages if cut at ", first);
+                return out.labeled(" and ", second);
+            }
+            ways = ways.saturating_add(1);
+        }
+    }
+    out.append(wanted);
+    out.labeled(": ", ways);
+    out.text(" ways");
 }
 
 /// The messages of octets, however they are cut.
-fn cuts(alloc: Global, text: &str, out: &mut String) -> anyhow::Result<()> {
-    let octets = octets_of(alloc, text)?;
-    push_cuts(alloc, octets.as_slice(), out)
+fn cuts(alloc: Global, text: &str, out: &mut Answer) {
+    let octets = octets_of(alloc, text, out);
+    let mut wanted = Answer::new(alloc);
+    feed_each(alloc, octets.as_slice(), &mut wanted);
+    push_ways(alloc, octets.as_slice(), &wanted, out);
 }
 
-/// The octets of a frame of this many octets 5A.
-fn long_octets(alloc: Global, count: u16) -> anyhow::Result<Vec<u8>>
+/// Appends the octets of a frame of this many octets 5A.
+fn push_long_octets(octets: &mut Vec<u8>, count: u16) -> Result<(), AllocError>
     requires some { 1 ≤ count }
     requires most { count ≤ 4096 }
 {
-    let mut octets = Vec::new(alloc);
     octets.extend_from_slice(&frame_head(count))?;
-    octets.resize(usize::from(count).saturating_add(4), 0x5A)?;
-    Ok(octets)
+    octets.resize(usize::from(count).saturating_add(4), 0x5A)
+}
+
+/// Whether all octets are 5A.
+fn are_same(octets: &[u8]) -> bool {
+    for octet in octets {
+        if *octet != 0x5A {
+            return false;
+        }
+    }
+    true
 }
 
 /// Writes after how many octets a frame came, and how many octets 5A it holds.
-fn push_long(out: &mut String, fed: u32, octets: &[u8]) -> anyhow::Result<()> {
-    ensure!(octets.iter().all(|&octet| octet == 0x5A), "other octets");
-    Ok(write!(out, "behind {fed}: {} of 5A", octets.len())?)
+fn push_long(out: &mut Answer, fed: u32, octets: &[u8]) {
+    if !are_same(octets) {
+        out.fail("other octets");
+    }
+    out.labeled("behind ", fed);
+    out.labeled(": ", octets.len());
+    out.text(" of 5A");
 }
 
 /// Feeds octets one at a time until a frame comes, and writes that.
-fn push_first(reader: &mut FrameReader, octets: &[u8], out: &mut String) -> anyhow::Result<()> {
+fn push_first(reader: &mut FrameReader, octets: &[u8], out: &mut Answer) {
     let mut fed: u32 = 0;
     for piece in octets.chunks(1) {
-        reader.feed(piece)?;
+        feed_octets(reader, piece, out);
         fed = fed.saturating_add(1);
-        if let Some(frame) = reader.next()? {
+        if let Ok(Some(frame)) = reader.next() {
             return push_long(out, fed, frame.octets());
         }
     }
-    bail!("no frame")
+    out.fail("no frame");
 }
 
 /// After how many octets a frame comes that is fed one octet at a time.
-fn long_stream(alloc: Global, text: &str, out: &mut String) -> anyhow::Result<()> {
-    let count: u16 = text.parse()?;
-    ensure!(0 < count && count <= 4_096, "not 1 to 4,096 octets");
-    let octets = long_octets(alloc, count)?;
+fn long_stream(alloc: Global, text: &str, out: &mut Answer) {
+    let count: u16 = number_of(text, out);
+    if count == 0 || count > 4_096 {
+        return out.fail("not 1 to 4,096 octets");
+    }
+    let mut octets = Vec::new(alloc);
+    out.note(push_long_octets(&mut octets, count));
     let mut reader = FrameReader::new(alloc);
-    push_first(&mut reader, octets.as_slice(), out)
+    push_first(&mut reader, octets.as_slice(), out);
 }
 
 /// Writes what a case of this module gives, and says whether it has one of this kind.
-pub(crate) fn answer(
-    alloc: Global,
-    kind: &str,
-    rest: &str,
-    out: &mut String,
-) -> anyhow::Result<bool> {
-    let written = match kind {
+pub(crate) fn answer(alloc: Global, kind: &str, rest: &str, out: &mut Answer) -> bool {
+    match kind {
         "stream" => stream(alloc, rest, out),
         "stream-cuts" => cuts(alloc, rest, out),
         "long-stream" => long_stream(alloc, rest, out),
-        _ => return Ok(false),
-    };
-    written?;
-    Ok(true)
+        _ => return false,
+    }
+    true
 }

@@ -1,7 +1,6 @@
 //! Reading a case: how to run the program, and with what limits.
 
-use anyhow::bail;
-use cases::first_word;
+use cases::{Answer, first_word, number_of};
 
 /// How the program is run.
 #[derive(Clone, Copy)]
@@ -60,79 +59,101 @@ pub(crate) struct Asked<'a> {
     pub(crate) text: &'a str,
 }
 
-/// Reads a case.
-pub(crate) fn asked_by<'a>(input: &'a str) -> anyhow::Result<Asked<'a>> {
+/// Reads a case. `None`, and a fault, if it is none.
+pub(crate) fn asked_by<'a>(input: &'a str, out: &mut Answer) -> Option<Asked<'a>> {
     let mut limits = Limits::NONE;
     match input.strip_prefix("mute ") {
-        None => run_of(input, limits),
+        None => run_of(input, limits, out),
         Some(run) => {
             limits.errors = 0;
-            run_of(run, limits)
+            run_of(run, limits, out)
         }
     }
 }
 
 /// Reads a case after its `mute`, if it had one. `limits` already has the limit of standard error.
-fn run_of<'a>(input: &'a str, limits: Limits) -> anyhow::Result<Asked<'a>> {
+fn run_of<'a>(input: &'a str, limits: Limits, out: &mut Answer) -> Option<Asked<'a>> {
     let (word, rest) = first_word(input);
     match word {
-        "scp" => run_as(Kind::Once, limits, input),
-        "torn" => run_as(Kind::Torn, limits, rest),
-        "full" => limited(rest, limits, true),
-        "unflushed" => limited(rest, limits, false),
-        "as" => beside(rest, limits),
-        "paced" => run_as(Kind::Paced(1), limits, rest),
-        "pieces" => pieces(rest, limits),
-        "failing" => failing(rest, limits),
-        "fronts" => fronts(rest, limits),
-        _ => bail!("no such case"),
+        "scp" => run_as(Kind::Once, limits, input, out),
+        "torn" => run_as(Kind::Torn, limits, rest, out),
+        "full" => limited(rest, limits, true, out),
+        "unflushed" => limited(rest, limits, false, out),
+        "as" => beside(rest, limits, out),
+        "paced" => run_as(Kind::Paced(1), limits, rest, out),
+        "pieces" => pieces(rest, limits, out),
+        "failing" => failing(rest, limits, out),
+        "fronts" => fronts(rest, limits, out),
+        _ => {
+            out.fail("no such case");
+            None
+        }
     }
 }
 
 /// A run of this kind. `text` is `scp` and the words of the run.
-fn run_as<'a>(kind: Kind<'a>, limits: Limits, text: &'a str) -> anyhow::Result<Asked<'a>> {
+fn run_as<'a>(
+    kind: Kind<'a>,
+    limits: Limits,
+    text: &'a str,
+    out: &mut Answer,
+) -> Option<Asked<'a>> {
     match text.strip_prefix("scp") {
-        Some(text) => Ok(Asked { kind, limits, text }),
-        None => bail!("no run of scp"),
+        Some(text) => Some(Asked { kind, limits, text }),
+        None => {
+            out.fail("no run of scp");
+            None
+        }
     }
 }
 
 /// A run whose standard output takes the number of octets at the front of `text`.
-fn limited<'a>(text: &'a str, limits: Limits, is_flushed: bool) -> anyhow::Result<Asked<'a>> {
+fn limited<'a>(
+    text: &'a str,
+    limits: Limits,
+    is_flushed: bool,
+    out: &mut Answer,
+) -> Option<Asked<'a>> {
     let (room, rest) = first_word(text);
     let limits = Limits {
-        output: room.parse()?,
+        output: number_of(room, out),
         is_flushed,
         errors: limits.errors,
     };
-    run_as(Kind::Once, limits, rest)
+    run_as(Kind::Once, limits, rest, out)
 }
 
 /// A run whose output is compared with the file named at the front of `text`.
-fn beside<'a>(text: &'a str, limits: Limits) -> anyhow::Result<Asked<'a>> {
+fn beside<'a>(text: &'a str, limits: Limits, out: &mut Answer) -> Option<Asked<'a>> {
     let (file, rest) = first_word(text);
-    run_as(Kind::Beside(file), limits, rest)
+    run_as(Kind::Beside(file), limits, rest, out)
 }
 
 /// A run whose input gives as many octets a read as the number at the front of `text`.
-fn pieces<'a>(text: &'a str, limits: Limits) -> anyhow::Result<Asked<'a>> {
+fn pieces<'a>(text: &'a str, limits: Limits, out: &mut Answer) -> Option<Asked<'a>> {
     let (size, rest) = first_word(text);
-    run_as(Kind::Paced(size.parse()?), limits, rest)
+    let size: usize = number_of(size, out);
+    run_as(Kind::Paced(size), limits, rest, out)
 }
 
 /// Runs with a device whose calls fail.
-fn failing<'a>(text: &'a str, limits: Limits) -> anyhow::Result<Asked<'a>> {
+fn failing<'a>(text: &'a str, limits: Limits, out: &mut Answer) -> Option<Asked<'a>> {
     let (calls, rest) = first_word(text);
     match calls {
-        "reads" => run_as(Kind::Failing(Device::Input), limits, rest),
-        "writes" => run_as(Kind::Failing(Device::Output), limits, rest),
-        _ => bail!("neither reads nor writes"),
+        "reads" => run_as(Kind::Failing(Device::Input), limits, rest, out),
+        "writes" => run_as(Kind::Failing(Device::Output), limits, rest, out),
+        _ => {
+            out.fail("neither reads nor writes");
+            None
+        }
     }
 }
 
 /// Runs with the first octets of the message, from the first number of octets in `text` to the second.
-fn fronts<'a>(text: &'a str, limits: Limits) -> anyhow::Result<Asked<'a>> {
+fn fronts<'a>(text: &'a str, limits: Limits, out: &mut Answer) -> Option<Asked<'a>> {
     let (first, rest) = first_word(text);
     let (last, rest) = first_word(rest);
-    run_as(Kind::Fronts(first.parse()?, last.parse()?), limits, rest)
+    let first: usize = number_of(first, out);
+    let last: usize = number_of(last, out);
+    run_as(Kind::Fronts(first, last), limits, rest, out)
 }

@@ -4,6 +4,7 @@
 //! a line feed follows. `SP` is a space, `CR` a carriage return, `6*8192` the digit 6, 8,192 times, and `CUT` at the
 //! end says that no line feed follows. With no `|` the input is empty.
 
+use cases::{Answer, number_of};
 use std::alloc::Global;
 
 /// The name under which the system hands the program its words.
@@ -20,63 +21,66 @@ pub(crate) struct CommandLine {
 
 impl CommandLine {
     /// Reads the words and the input of a run from a text.
-    pub(crate) fn read(alloc: Global, text: &str) -> anyhow::Result<CommandLine> {
+    pub(crate) fn read(alloc: Global, text: &str, out: &mut Answer) -> CommandLine {
         let mut line = CommandLine {
             words: Vec::new(alloc),
             input: Vec::new(alloc),
         };
-        line.words.push(String::from_str(alloc, EXECUTABLE)?)?;
-        push_parts(alloc, &mut line, text)?;
-        Ok(line)
+        push_copy(alloc, &mut line.words, EXECUTABLE, out);
+        push_parts(alloc, &mut line, text, out);
+        line
+    }
+}
+
+/// Adds a copy of a word.
+fn push_copy(alloc: Global, words: &mut Vec<String>, word: &str, out: &mut Answer) {
+    match String::from_str(alloc, word) {
+        Ok(word) => out.push(words, word),
+        Err(_) => out.run_out(),
     }
 }
 
 /// Adds the words before the first bar, and the lines after the bars.
-fn push_parts(alloc: Global, line: &mut CommandLine, text: &str) -> anyhow::Result<()> {
+fn push_parts(alloc: Global, line: &mut CommandLine, text: &str, out: &mut Answer) {
     for (place, part) in text.split('|').enumerate() {
         if place == 0 {
-            push_words(alloc, &mut line.words, part)?;
+            push_words(alloc, &mut line.words, part, out);
         } else {
-            push_line(&mut line.input, part)?;
+            push_line(&mut line.input, part, out);
         }
     }
-    Ok(())
 }
 
 /// Adds the words of a text.
-fn push_words(alloc: Global, words: &mut Vec<String>, text: &str) -> anyhow::Result<()> {
+fn push_words(alloc: Global, words: &mut Vec<String>, text: &str, out: &mut Answer) {
     for word in text.split_whitespace() {
-        words.push(String::from_str(alloc, word)?)?;
+        push_copy(alloc, words, word, out);
     }
-    Ok(())
 }
 
 /// Adds a line.
-fn push_line(input: &mut Vec<u8>, text: &str) -> anyhow::Result<()> {
+fn push_line(input: &mut Vec<u8>, text: &str, out: &mut Answer) {
     let mut is_ended = true;
     for word in text.split_whitespace() {
         match word {
-            "SP" => input.push(b' ')?,
-            "CR" => input.push(b'\r')?,
+            "SP" => out.push(input, b' '),
+            "CR" => out.push(input, b'\r'),
             "CUT" => is_ended = false,
-            _ => push_word(input, word)?,
+            _ => push_word(input, word, out),
         }
     }
     if is_ended {
-        input.push(b'\n')?;
+        out.push(input, b'\n');
     }
-    Ok(())
 }
 
 /// Adds a word; if `*` and a number follow it, that many times.
-fn push_word(input: &mut Vec<u8>, word: &str) -> anyhow::Result<()> {
+fn push_word(input: &mut Vec<u8>, word: &str, out: &mut Answer) {
     let Some((word, times)) = word.split_once('*') else {
-        input.extend_from_slice(word.as_bytes())?;
-        return Ok(());
+        return out.note(input.extend_from_slice(word.as_bytes()));
     };
-    let times: u32 = times.parse()?;
+    let times: u32 = number_of(times, out);
     for _ in 0..times {
-        input.extend_from_slice(word.as_bytes())?;
+        out.note(input.extend_from_slice(word.as_bytes()));
     }
-    Ok(())
 }

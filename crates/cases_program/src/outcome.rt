@@ -4,6 +4,8 @@
 //! after a last line that has no line feed. If a run is compared with a file, the name of the file is written in place
 //! of its octets.
 
+use cases::Answer;
+
 /// The outcome of a run.
 #[derive(Drop)]
 pub(crate) struct Outcome {
@@ -17,24 +19,21 @@ pub(crate) struct Outcome {
 
 impl Outcome {
     /// Adds the status, the output and the errors.
-    pub(crate) fn write(&self, text: &mut String) -> anyhow::Result<()> {
-        write!(text, "{}, ", self.status)?;
-        push_lines(text, self.output.as_slice())?;
-        text.push_str(", ")?;
-        push_lines(text, self.errors.as_slice())
+    pub(crate) fn write(&self, out: &mut Answer) {
+        out.value(self.status);
+        out.text(", ");
+        push_lines(out, self.output.as_slice());
+        out.text(", ");
+        push_lines(out, self.errors.as_slice())
     }
 
     /// Adds the status, the output and the errors, with the name of a file in place of these octets of it.
-    pub(crate) fn write_beside(
-        &self,
-        name: &str,
-        octets: &[u8],
-        text: &mut String,
-    ) -> anyhow::Result<()> {
-        write!(text, "{}, ", self.status)?;
-        push_named(text, self.output.as_slice(), name, octets)?;
-        text.push_str(", ")?;
-        push_named(text, self.errors.as_slice(), name, octets)
+    pub(crate) fn write_beside(&self, name: &str, octets: &[u8], out: &mut Answer) {
+        out.value(self.status);
+        out.text(", ");
+        push_named(out, self.output.as_slice(), name, octets);
+        out.text(", ");
+        push_named(out, self.errors.as_slice(), name, octets)
     }
 
     /// Whether another run had the same outcome.
@@ -54,31 +53,33 @@ impl Outcome {
 }
 
 /// Adds the name of a file if these are its octets, else the lines.
-fn push_named(text: &mut String, written: &[u8], name: &str, octets: &[u8]) -> anyhow::Result<()> {
+fn push_named(out: &mut Answer, written: &[u8], name: &str, octets: &[u8]) {
     if written != octets {
-        return push_lines(text, written);
+        return push_lines(out, written);
     }
-    text.push_str(name)?;
-    Ok(())
+    out.text(name);
 }
 
 /// Adds the lines of an output, or `-` if it has no octets.
-fn push_lines(text: &mut String, octets: &[u8]) -> anyhow::Result<()> {
-    let written = std::str::from_utf8(octets)?;
-    if written.is_empty() {
-        text.push_str("-")?;
-        return Ok(());
+fn push_lines(out: &mut Answer, octets: &[u8]) {
+    match std::str::from_utf8(octets) {
+        Ok("") => out.text("-"),
+        Ok(written) => push_text(out, written),
+        Err(_) => out.fail("an output that is no text"),
     }
+}
+
+/// Adds the lines of a text.
+fn push_text(out: &mut Answer, written: &str) {
     let (whole, end) = match written.strip_suffix('\n') {
         Some(whole) => (whole, ""),
         None => (written, " CUT"),
     };
     for (place, line) in whole.split('\n').enumerate() {
         if place > 0 {
-            text.push_str(" | ")?;
+            out.text(" | ");
         }
-        text.push_str(line)?;
+        out.text(line);
     }
-    text.push_str(end)?;
-    Ok(())
+    out.text(end);
 }

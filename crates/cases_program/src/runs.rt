@@ -4,8 +4,7 @@ use crate::asked::{Asked, Device, Kind, Limits, asked_by};
 use crate::command_line::CommandLine;
 use crate::devices::{Failing, Paced, Shown, Sink, Torn};
 use crate::outcome::Outcome;
-use anyhow::bail;
-use cases::Answers;
+use cases::{Answer, Answers};
 use scp::program;
 use std::cell::Cell;
 use std::fs;
@@ -20,10 +19,11 @@ pub(crate) struct Runs<'a, H> {
 }
 
 impl<H: Files + AllocGlobal> Answers for Runs<'_, H> {
-    fn answer(&mut self, input: &str, out: &mut String) -> anyhow::Result<()> {
-        let asked = asked_by(input)?;
-        let line = CommandLine::read(self.rt.alloc(), asked.text)?;
-        write_answer(self.rt, &asked, &line, out)
+    fn answer(&mut self, input: &str, out: &mut Answer) {
+        if let Some(asked) = asked_by(input, out) {
+            let line = CommandLine::read(self.rt.alloc(), asked.text, out);
+            write_answer(self.rt, &asked, &line, out);
+        }
     }
 }
 
@@ -32,8 +32,8 @@ fn write_answer<H: Files + AllocGlobal>(
     rt: &H,
     asked: &Asked<'_>,
     line: &CommandLine,
-    out: &mut String,
-) -> anyhow::Result<()> {
+    out: &mut Answer,
+) {
     let input = line.input.as_slice();
     match asked.kind {
         Kind::Once => outcome(rt, line, input, asked.limits).write(out),
@@ -68,9 +68,11 @@ fn write_beside<H: Files + AllocGlobal>(
     line: &CommandLine,
     limits: Limits,
     file: &str,
-    out: &mut String,
-) -> anyhow::Result<()> {
-    let octets = fs::read(rt, file)?;
+    out: &mut Answer,
+) {
+    let Ok(octets) = fs::read(rt, file) else {
+        return out.fail("a file that can't be read, or out of memory");
+    };
     let outcome = outcome(rt, line, line.input.as_slice(), limits);
     outcome.write_beside(file, octets.as_slice(), out)
 }
@@ -96,20 +98,15 @@ fn paced_outcome<H: Files + AllocGlobal>(
 
 /// Adds the outcome of a run whose input gives `size` octets a read, and how many lines were flushed before each read
 /// and at its end.
-fn write_paced<H: Files + AllocGlobal>(
-    rt: &H,
-    line: &CommandLine,
-    size: usize,
-    out: &mut String,
-) -> anyhow::Result<()> {
+fn write_paced<H: Files + AllocGlobal>(rt: &H, line: &CommandLine, size: usize, out: &mut Answer) {
     let flushed = Cell::new(0);
     let mut notes = Vec::new(rt.alloc());
-    paced_outcome(rt, line, size, &flushed, &mut notes).write(out)?;
-    out.push(',')?;
+    paced_outcome(rt, line, size, &flushed, &mut notes).write(out);
+    out.text(",");
     for count in &notes {
-        write!(out, " {count}")?;
+        out.labeled(" ", *count);
     }
-    Ok(write!(out, " {}", flushed.get())?)
+    out.labeled(" ", flushed.get());
 }
 
 impl Device {
@@ -162,11 +159,12 @@ fn write_failing<H: Files + AllocGlobal>(
     rt: &H,
     line: &CommandLine,
     device: Device,
-    out: &mut String,
-) -> anyhow::Result<()> {
+    out: &mut Answer,
+) {
     let whole = failed_outcome(rt, line, device, usize::MAX);
     let ends = early_ends(rt, line, device, &whole);
-    write!(out, "{ends}, then ")?;
+    out.value(ends);
+    out.text(", then ");
     failed_outcome(rt, line, device, ends).write(out)
 }
 
@@ -175,14 +173,16 @@ fn front_outcome<H: Files + AllocGlobal>(
     rt: &H,
     line: &CommandLine,
     octets: usize,
-) -> anyhow::Result<Outcome> {
-    let Some(digits) = line.input.as_slice().get(..octets.saturating_mul(2)) else {
-        bail!("no such front");
-    };
+    out: &mut Answer,
+) -> Outcome {
+    let digits = line.input.as_slice().get(..octets.saturating_mul(2));
     let mut front = Vec::new(rt.alloc());
-    front.extend_from_slice(digits)?;
-    front.push(b'\n')?;
-    Ok(outcome(rt, line, front.as_slice(), Limits::NONE))
+    match digits {
+        Some(digits) => out.note(front.extend_from_slice(digits)),
+        None => out.fail("no such front"),
+    }
+    out.push(&mut front, b'\n');
+    outcome(rt, line, front.as_slice(), Limits::NONE)
 }
 
 /// How many runs with prefixes of the message have this outcome, before one that doesn't.
@@ -192,15 +192,16 @@ fn like_fronts<H: Files + AllocGlobal>(
     first: usize,
     last: usize,
     wanted: &Outcome,
-) -> anyhow::Result<u32> {
+    out: &mut Answer,
+) -> u32 {
     let mut count: u32 = 0;
     for octets in first..=last {
-        if !front_outcome(rt, line, octets)?.is_like(wanted) {
+        if !front_outcome(rt, line, octets, out).is_like(wanted) {
             break;
         }
         count = count.saturating_add(1);
     }
-    Ok(count)
+    count
 }
 
 /// Adds how many runs with prefixes of the message have the same outcome, and that outcome.
@@ -209,10 +210,11 @@ fn write_fronts<H: Files + AllocGlobal>(
     line: &CommandLine,
     first: usize,
     last: usize,
-    out: &mut String,
-) -> anyhow::Result<()> {
-    let wanted = front_outcome(rt, line, first)?;
-    let count = like_fronts(rt, line, first, last, &wanted)?;
-    write!(out, "{count} times ")?;
-    wanted.write(out)
+    out: &mut Answer,
+) {
+    let wanted = front_outcome(rt, line, first, out);
+    let count = like_fronts(rt, line, first, last, &wanted, out);
+    out.value(count);
+    out.text(" times ");
+    wanted.write(out);
 }

@@ -1,9 +1,9 @@
 //! The faults of many inputs: how often each occurs in a row.
 
-use cases::octets_of;
+use crate::values::kept;
+use cases::{Answer, octets_of};
 use fp_ber::{BerFault, read};
 use std::alloc::Global;
-use std::fmt::Write;
 
 /// The first fault of these octets; `None` if they spell an element.
 fn fault_of(alloc: Global, octets: &[u8]) -> Option<BerFault> {
@@ -11,22 +11,23 @@ fn fault_of(alloc: Global, octets: &[u8]) -> Option<BerFault> {
 }
 
 /// Writes how often in a row this fault occurred, or, for `None`, an element.
-fn push_count(out: &mut String, count: u32, fault: Option<BerFault>) -> anyhow::Result<()> {
+fn push_count(out: &mut Answer, count: u32, fault: Option<BerFault>) {
+    out.value(count);
+    out.text(" ");
     match fault {
-        Some(fault) => write!(out, "{count} {fault:?}")?,
-        None => write!(out, "{count} elements")?,
+        Some(fault) => out.shown(&fault),
+        None => out.text("elements"),
     }
-    Ok(())
 }
 
 /// Writes how often each fault occurs in a row.
-fn push_faults(out: &mut String, faults: &[Option<BerFault>]) -> anyhow::Result<()> {
+fn push_faults(out: &mut Answer, faults: &[Option<BerFault>]) {
     let mut last = None;
     let mut count: u32 = 0;
     for fault in faults {
         if count > 0 && *fault != last {
-            push_count(out, count, last)?;
-            out.push_str(", ")?;
+            push_count(out, count, last);
+            out.text(", ");
             count = 0;
         }
         last = *fault;
@@ -36,52 +37,46 @@ fn push_faults(out: &mut String, faults: &[Option<BerFault>]) -> anyhow::Result<
 }
 
 /// The faults of all prefixes of these octets.
-fn prefixes(alloc: Global, text: &str, out: &mut String) -> anyhow::Result<()> {
-    let octets = octets_of(alloc, text)?;
+fn prefixes(alloc: Global, text: &str, out: &mut Answer) {
+    let octets = octets_of(alloc, text, out);
     let mut faults = Vec::new(alloc);
     for length in 0..octets.len() {
-        faults.push(fault_of(alloc, &octets[..length]))?;
+        out.push(&mut faults, fault_of(alloc, &octets[..length]));
     }
     push_faults(out, faults.as_slice())
 }
 
 /// The faults of these octets followed by one more, 00 to FF.
-fn trailing(alloc: Global, text: &str, out: &mut String) -> anyhow::Result<()> {
-    let mut octets = octets_of(alloc, text)?;
+fn trailing(alloc: Global, text: &str, out: &mut Answer) {
+    let mut octets = octets_of(alloc, text, out);
     let mut faults = Vec::new(alloc);
     for octet in 0..=u8::MAX {
-        octets.push(octet)?;
-        faults.push(fault_of(alloc, octets.as_slice()))?;
+        out.push(&mut octets, octet);
+        out.push(&mut faults, fault_of(alloc, octets.as_slice()));
         octets.pop();
     }
     push_faults(out, faults.as_slice())
 }
 
 /// The faults of these octets followed by none to seven more.
-fn following(alloc: Global, text: &str, out: &mut String) -> anyhow::Result<()> {
-    let mut octets = octets_of(alloc, text)?;
+fn following(alloc: Global, text: &str, out: &mut Answer) {
+    let mut octets = octets_of(alloc, text, out);
     let mut faults = Vec::new(alloc);
-    faults.push(fault_of(alloc, octets.as_slice()))?;
+    out.push(&mut faults, fault_of(alloc, octets.as_slice()));
     for octet in [0x00, 0xFF, 0x30, 0x80, 0x00, 0x00, 0x00] {
-        octets.push(octet)?;
-        faults.push(fault_of(alloc, octets.as_slice()))?;
+        out.push(&mut octets, octet);
+        out.push(&mut faults, fault_of(alloc, octets.as_slice()));
     }
     push_faults(out, faults.as_slice())
 }
 
 /// Writes the result of a case of this kind. `false` if this module has no such cases.
-pub(crate) fn answer(
-    alloc: Global,
-    kind: &str,
-    rest: &str,
-    out: &mut String,
-) -> anyhow::Result<bool> {
-    let written = match kind {
+pub(crate) fn answer(alloc: Global, kind: &str, rest: &str, out: &mut Answer) -> bool {
+    match kind {
         "prefixes" => prefixes(alloc, rest, out),
         "trailing" => trailing(alloc, rest, out),
         "following" => following(alloc, rest, out),
-        _ => return Ok(false),
-    };
-    written?;
-    Ok(true)
+        _ => return false,
+    }
+    true
 }

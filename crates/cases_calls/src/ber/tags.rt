@@ -1,8 +1,8 @@
 //! Tags by the names of their classes.
 
-ghost use Rattle.std.specs.Prelude.{◌<◌, ◌≤◌, IfOk};
+ghost use Rattle.std.specs.Prelude.{◌<◌, ◌≤◌};
 
-use anyhow::{bail, ensure};
+use cases::{Answer, number_of};
 use fp_ber::Class;
 
 /// A tag.
@@ -22,26 +22,29 @@ pub(crate) fn class_name(class: Class) -> &'static str {
     }
 }
 
-/// A class by its name.
-fn class_of(text: &str) -> anyhow::Result<Class> {
+/// A class by its name; another class, and a fault, for another text.
+fn class_of(text: &str, out: &mut Answer) -> Class {
     match text {
-        "universal" => Ok(Class::Universal),
-        "application" => Ok(Class::Application),
-        "context" => Ok(Class::Context),
-        "private" => Ok(Class::Private),
-        _ => bail!("{text} is no class"),
+        "universal" => Class::Universal,
+        "application" => Class::Application,
+        "context" => Class::Context,
+        "private" => Class::Private,
+        _ => {
+            out.fail("no class");
+            Class::Universal
+        }
     }
 }
 
-/// The tag of a class and a number.
-pub(crate) fn tag_of(class: &str, number: &str) -> anyhow::Result<Tag>
-    ensures { IfOk result (λ tag. (0 < tag.number) × (tag.number ≤ 16383)) }
+/// The tag of a class and a number; another tag, and a fault, for other texts.
+pub(crate) fn tag_of(class: &str, number: &str, out: &mut Answer) -> Tag
+    ensures { (0 < result.number) × (result.number ≤ 16383) }
 {
-    let class = class_of(class)?;
-    let number: u16 = number.parse()?;
-    ensure!(
-        0 < number && number <= 16_383,
-        "{number} is no number of a tag"
-    );
-    Ok(Tag { class, number })
+    let class = class_of(class, out);
+    let number: u16 = number_of(number, out);
+    if 0 < number && number <= 16_383 {
+        return Tag { class, number };
+    }
+    out.fail("no number of a tag");
+    Tag { class, number: 1 }
 }

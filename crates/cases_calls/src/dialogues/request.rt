@@ -23,8 +23,7 @@ ghost use Rattle.fp_service.specs.Components.{requests_report};
 use crate::kinds::identifier_of;
 use crate::records::{only_rule, routed_to};
 use crate::values::{cause_of, name_of};
-use anyhow::bail;
-use cases::first_word;
+use cases::{Answer, first_word, number_of};
 use fp_apdu::Name;
 use fp_inap::OperationError;
 use fp_q773::{GeneralProblem, InvokeProblem, Problem, ReturnErrorProblem, ReturnResultProblem};
@@ -32,73 +31,80 @@ use fp_records::{Action, Table};
 use fp_service::{AbortPortion, Component, Components, Instruction, Request};
 use std::alloc::Global;
 
-/// The request that a text spells.
-pub(crate) fn request_of(alloc: Global, text: &str) -> anyhow::Result<Request> {
+/// The request that a text spells. `None`, and a fault, if it spells none.
+pub(crate) fn request_of(alloc: Global, text: &str, out: &mut Answer) -> Option<Request> {
     let (head, components) = text.split_once(", ").unwrap_or((text, ""));
     let (word, portion) = first_word(head);
     match word {
-        "continue" => continue_of(alloc, portion, components),
-        "end" => end_of(alloc, portion, components),
-        "abort" => abort_of(alloc, portion),
-        _ => bail!("no request"),
+        "continue" => Some(continue_of(alloc, portion, components, out)),
+        "end" => Some(end_of(alloc, portion, components, out)),
+        "abort" => abort_of(alloc, portion, out),
+        _ => {
+            out.fail("no request");
+            None
+        }
     }
 }
 
 /// A Continue.
-fn continue_of(alloc: Global, portion: &str, components: &str) -> anyhow::Result<Request> {
-    let acceptance = acceptance_of(alloc, portion)?;
-    let components = components_of(alloc, components)?;
-    Ok(Request::Continue {
+fn continue_of(alloc: Global, portion: &str, components: &str, out: &mut Answer) -> Request {
+    let acceptance = acceptance_of(alloc, portion, out);
+    let components = components_of(alloc, components, out);
+    Request::Continue {
         acceptance,
         components,
-    })
+    }
 }
 
 /// An End.
-fn end_of(alloc: Global, portion: &str, components: &str) -> anyhow::Result<Request> {
-    let acceptance = acceptance_of(alloc, portion)?;
-    let components = components_of(alloc, components)?;
-    Ok(Request::End {
+fn end_of(alloc: Global, portion: &str, components: &str, out: &mut Answer) -> Request {
+    let acceptance = acceptance_of(alloc, portion, out);
+    let components = components_of(alloc, components, out);
+    Request::End {
         acceptance,
         components,
-    })
+    }
 }
 
 /// The application context name that an AARE accepts, if there is one.
-fn acceptance_of(alloc: Global, text: &str) -> anyhow::Result<Option<Name>> {
+fn acceptance_of(alloc: Global, text: &str, out: &mut Answer) -> Option<Name> {
     if text.is_empty() {
-        return Ok(None);
+        return None;
     }
     match text.strip_prefix("aare accepted ") {
-        Some(name) => Ok(Some(name_of(alloc, name)?)),
-        None => bail!("no AARE that accepts"),
+        Some(name) => name_of(alloc, name, out),
+        None => {
+            out.fail("no AARE that accepts");
+            None
+        }
     }
 }
 
 /// An Abort.
-fn abort_of(alloc: Global, text: &str) -> anyhow::Result<Request> {
+fn abort_of(alloc: Global, text: &str, out: &mut Answer) -> Option<Request> {
     match text {
-        "" => Ok(Request::Abort(AbortPortion::Absent)),
-        "abrt" => Ok(Request::Abort(AbortPortion::Abrt)),
-        _ => refusal_of(alloc, text),
+        "" => Some(Request::Abort(AbortPortion::Absent)),
+        "abrt" => Some(Request::Abort(AbortPortion::Abrt)),
+        _ => Some(Request::Abort(refusal_of(alloc, text, out)?)),
     }
 }
 
-/// An Abort with an AARE that refuses the dialogue.
-fn refusal_of(alloc: Global, text: &str) -> anyhow::Result<Request> {
-    let Some((aare, name)) = text.rsplit_once(' ') else {
-        bail!("no dialogue portion");
-    };
-    let name = name_of(alloc, name)?;
+/// An AARE that refuses the dialogue.
+fn refusal_of(alloc: Global, text: &str, out: &mut Answer) -> Option<AbortPortion> {
+    let (aare, name) = text.rsplit_once(' ').unwrap_or((text, ""));
+    let name = name_of(alloc, name, out)?;
     match aare {
-        "aare name-not-supported" => Ok(Request::Abort(AbortPortion::NoName(name))),
-        "aare no-common-version" => Ok(Request::Abort(AbortPortion::NoVersion(name))),
-        _ => bail!("no AARE that refuses"),
+        "aare name-not-supported" => Some(AbortPortion::NoName(name)),
+        "aare no-common-version" => Some(AbortPortion::NoVersion(name)),
+        _ => {
+            out.fail("no AARE that refuses");
+            None
+        }
     }
 }
 
 /// The components that a text spells.
-fn components_of(alloc: Global, text: &str) -> anyhow::Result<Components> {
+fn components_of(alloc: Global, text: &str, out: &mut Answer) -> Components {
     let mut first = None;
     let mut second = None;
     for part in text.split(", ") {
@@ -106,38 +112,38 @@ fn components_of(alloc: Global, text: &str) -> anyhow::Result<Components> {
             break;
         }
         if first.is_some() {
-            read_component(alloc, part, &mut second)?;
+            read_component(alloc, part, &mut second, out);
         } else {
-            read_component(alloc, part, &mut first)?;
+            read_component(alloc, part, &mut first, out);
         }
     }
-    built(&first, &second)
+    built(&first, &second, out)
 }
 
 /// Reads the component of a text into `place`.
-fn read_component(alloc: Global, text: &str, place: &mut Option<Component>) -> anyhow::Result<()> {
+fn read_component(alloc: Global, text: &str, place: &mut Option<Component>, out: &mut Answer) {
     if place.is_some() {
-        bail!("more than two components");
+        out.fail("more than two components");
     }
-    *place = Some(component_of(alloc, text)?);
-    Ok(())
+    *place = component_of(alloc, text, out);
 }
 
 /// The components that were read.
-fn built(first: &Option<Component>, second: &Option<Component>) -> anyhow::Result<Components> {
+fn built(first: &Option<Component>, second: &Option<Component>, out: &mut Answer) -> Components {
     match (first, second) {
-        (Some(first), Some(second)) => both(first, second),
-        (Some(only), None) => Ok(Components::one(*only)),
-        _ => Ok(Components::none()),
+        (Some(first), Some(second)) => both(first, second, out),
+        (Some(only), None) => Components::one(*only),
+        _ => Components::none(),
     }
 }
 
 /// Two components.
-fn both(first: &Component, second: &Component) -> anyhow::Result<Components> {
+fn both(first: &Component, second: &Component, out: &mut Answer) -> Components {
     if requests_report(second) {
-        bail!("RequestReportBCSMEvent comes second");
+        out.fail("RequestReportBCSMEvent comes second");
+        return Components::none();
     }
-    Ok(Components::two(*first, *second))
+    Components::two(*first, *second)
 }
 
 /// Whether a component is an Invoke of RequestReportBCSMEvent.
@@ -152,109 +158,116 @@ fn requests_report(component: &Component) -> bool
     }
 }
 
-/// The component that a text spells.
-fn component_of(alloc: Global, text: &str) -> anyhow::Result<Component> {
+/// The component that a text spells. `None`, and a fault, if it spells none.
+fn component_of(alloc: Global, text: &str, out: &mut Answer) -> Option<Component> {
     let (word, rest) = first_word(text);
     match word {
-        "invoke" => invoke_of(alloc, rest),
-        "error" => return_error_of(rest),
-        "reject" => reject_of(rest),
-        _ => bail!("no component"),
+        "invoke" => invoke_of(alloc, rest, out),
+        "error" => return_error_of(rest, out),
+        "reject" => reject_of(rest, out),
+        _ => {
+            out.fail("no component");
+            None
+        }
     }
 }
 
 /// An Invoke.
-fn invoke_of(alloc: Global, text: &str) -> anyhow::Result<Component> {
+fn invoke_of(alloc: Global, text: &str, out: &mut Answer) -> Option<Component> {
     let (identifier, rest) = first_word(text);
-    let identifier = identifier.parse()?;
-    let instruction = instruction_of(alloc, rest)?;
-    Ok(Component::Invoke {
+    let identifier: i8 = number_of(identifier, out);
+    let instruction = instruction_of(alloc, rest, out)?;
+    Some(Component::Invoke {
         identifier,
         instruction,
     })
 }
 
 /// A ReturnError.
-fn return_error_of(text: &str) -> anyhow::Result<Component> {
+fn return_error_of(text: &str, out: &mut Answer) -> Option<Component> {
     let (identifier, error) = first_word(text);
-    let identifier = identifier.parse()?;
-    let error = error_of(error)?;
-    Ok(Component::ReturnError { identifier, error })
+    let identifier: i8 = number_of(identifier, out);
+    let error = error_of(error, out)?;
+    Some(Component::ReturnError { identifier, error })
 }
 
 /// A Reject.
-fn reject_of(text: &str) -> anyhow::Result<Component> {
+fn reject_of(text: &str, out: &mut Answer) -> Option<Component> {
     let (identifier, problem) = first_word(text);
-    let identifier = identifier_of(identifier)?;
-    let problem = problem_of(problem)?;
-    Ok(Component::Reject {
+    let identifier = identifier_of(identifier, out);
+    let problem = problem_of(problem, out)?;
+    Some(Component::Reject {
         identifier,
         problem,
     })
 }
 
-/// The instruction that a text spells.
-fn instruction_of(alloc: Global, text: &str) -> anyhow::Result<Instruction> {
+/// The instruction that a text spells. `None`, and a fault, if it spells none.
+fn instruction_of(alloc: Global, text: &str, out: &mut Answer) -> Option<Instruction> {
     let (word, rest) = first_word(text);
     match word {
-        "Connect" => connect_of(alloc, rest),
-        "ReleaseCall" => release_of(rest),
-        "RequestReportBCSMEvent" => Ok(Instruction::RequestReportBcsmEvent),
-        "Continue" => Ok(Instruction::Continue),
-        "ActivityTest" => Ok(Instruction::ActivityTest),
-        _ => bail!("no instruction"),
+        "Connect" => connect_of(alloc, rest, out),
+        "ReleaseCall" => Some(Instruction::ReleaseCall(cause_of(rest, out))),
+        "RequestReportBCSMEvent" => Some(Instruction::RequestReportBcsmEvent),
+        "Continue" => Some(Instruction::Continue),
+        "ActivityTest" => Some(Instruction::ActivityTest),
+        _ => {
+            out.fail("no instruction");
+            None
+        }
     }
 }
 
 /// A Connect to these digits.
-fn connect_of(alloc: Global, digits: &str) -> anyhow::Result<Instruction> {
-    let table = routed_to(alloc, digits)?;
-    connect_in(&table)
-}
-
-/// A Connect to the only destination of a table's only rule.
-fn connect_in(table: &Table) -> anyhow::Result<Instruction> {
-    let rule = only_rule(table, "5")?;
-    let Action::Route(destinations) = rule.action else {
-        bail!("no route");
-    };
-    match destinations.as_slice() {
-        [only] => Ok(Instruction::Connect(*only)),
-        _ => bail!("more than one destination"),
+fn connect_of(alloc: Global, digits: &str, out: &mut Answer) -> Option<Instruction> {
+    match routed_to(alloc, digits, out) {
+        Some(table) => connect_in(&table, out),
+        None => None,
     }
 }
 
-/// A ReleaseCall of this cause.
-fn release_of(cause: &str) -> anyhow::Result<Instruction> {
-    let cause = cause_of(cause)?;
-    Ok(Instruction::ReleaseCall(cause))
+/// A Connect to the only destination of a table's only rule.
+fn connect_in(table: &Table, out: &mut Answer) -> Option<Instruction> {
+    if let Action::Route(destinations) = only_rule(table, "5", out)?.action {
+        if let [only] = destinations.as_slice() {
+            return Some(Instruction::Connect(*only));
+        }
+    }
+    out.fail("no route, or more than one destination");
+    None
 }
 
 /// The error of this name.
-fn error_of(text: &str) -> anyhow::Result<OperationError> {
+fn error_of(text: &str, out: &mut Answer) -> Option<OperationError> {
     match text {
-        "MissingCustomerRecord" => Ok(OperationError::MissingCustomerRecord),
-        "MissingParameter" => Ok(OperationError::MissingParameter),
-        "UnexpectedComponentSequence" => Ok(OperationError::UnexpectedComponentSequence),
-        "UnexpectedDataValue" => Ok(OperationError::UnexpectedDataValue),
-        _ => bail!("no error"),
+        "MissingCustomerRecord" => Some(OperationError::MissingCustomerRecord),
+        "MissingParameter" => Some(OperationError::MissingParameter),
+        "UnexpectedComponentSequence" => Some(OperationError::UnexpectedComponentSequence),
+        "UnexpectedDataValue" => Some(OperationError::UnexpectedDataValue),
+        _ => {
+            out.fail("no error");
+            None
+        }
     }
 }
 
 /// The problem of an Invoke with this name.
-fn invoke_problem_of(text: &str) -> anyhow::Result<InvokeProblem> {
+fn invoke_problem_of(text: &str, out: &mut Answer) -> Option<InvokeProblem> {
     match text {
-        "Invoke(UnrecognizedOperation)" => Ok(InvokeProblem::UnrecognizedOperation),
-        "Invoke(MistypedParameter)" => Ok(InvokeProblem::MistypedParameter),
-        "Invoke(UnrecognizedLinkedIdentifier)" => Ok(InvokeProblem::UnrecognizedLinkedIdentifier),
-        "Invoke(LinkedResponseUnexpected)" => Ok(InvokeProblem::LinkedResponseUnexpected),
-        _ => bail!("no problem"),
+        "Invoke(UnrecognizedOperation)" => Some(InvokeProblem::UnrecognizedOperation),
+        "Invoke(MistypedParameter)" => Some(InvokeProblem::MistypedParameter),
+        "Invoke(UnrecognizedLinkedIdentifier)" => Some(InvokeProblem::UnrecognizedLinkedIdentifier),
+        "Invoke(LinkedResponseUnexpected)" => Some(InvokeProblem::LinkedResponseUnexpected),
+        _ => {
+            out.fail("no problem");
+            None
+        }
     }
 }
 
 /// The problem of this name.
-fn problem_of(text: &str) -> anyhow::Result<Problem> {
-    Ok(match text {
+fn problem_of(text: &str, out: &mut Answer) -> Option<Problem> {
+    Some(match text {
         "General(UnrecognizedComponent)" => Problem::General(GeneralProblem::UnrecognizedComponent),
         "General(MistypedComponent)" => Problem::General(GeneralProblem::MistypedComponent),
         "ReturnResult(UnrecognizedInvokeIdentifier)" => {
@@ -269,6 +282,6 @@ fn problem_of(text: &str) -> anyhow::Result<Problem> {
         "ReturnError(ReturnErrorUnexpected)" => {
             Problem::ReturnError(ReturnErrorProblem::ReturnErrorUnexpected)
         }
-        _ => Problem::Invoke(invoke_problem_of(text)?),
+        _ => Problem::Invoke(invoke_problem_of(text, out)?),
     })
 }

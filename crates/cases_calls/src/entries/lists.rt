@@ -2,20 +2,21 @@
 
 use crate::entries::shown::push_entries;
 use crate::kinds::kind_of;
-use crate::values::after_noon;
-use cases::first_word;
+use crate::values::{after_noon, kept};
+use cases::{Answer, first_word, number_of};
+use fp_digits::Moment;
 use fp_entry::{Entries, Entry, EntryKind};
 use fp_records::Table;
 use std::alloc::Global;
 
 /// The entries that a text spells.
-fn entries_of(alloc: Global, table: &Table, text: &str) -> anyhow::Result<Entries> {
+fn entries_of(alloc: Global, table: &Table, text: &str, out: &mut Answer) -> Entries {
     let (moments, kinds) = first_word(text);
     let mut entries = Entries::new(alloc);
     for kind in kinds.split("; ") {
-        push_kind(alloc, table, &mut entries, moments, kind)?;
+        push_kind(alloc, table, &mut entries, moments, kind, out);
     }
-    Ok(entries)
+    entries
 }
 
 /// Adds the entry of a text, at each of these moments.
@@ -25,32 +26,33 @@ fn push_kind(
     entries: &mut Entries,
     moments: &str,
     text: &str,
-) -> anyhow::Result<()> {
-    let kind = kind_of(alloc, table, text)?;
-    push_at(entries, moments, &kind)
+    out: &mut Answer,
+) {
+    if let Some(kind) = kind_of(alloc, table, text, out) {
+        push_at(entries, moments, &kind, out);
+    }
 }
 
 /// Adds an entry of this kind, at each of these moments.
-fn push_at(entries: &mut Entries, moments: &str, kind: &EntryKind) -> anyhow::Result<()> {
+fn push_at(entries: &mut Entries, moments: &str, kind: &EntryKind, out: &mut Answer) {
     for moment in moments.split(',') {
-        entries.push(Entry {
-            moment: after_noon(moment.parse()?),
-            kind: kind.try_clone()?,
-        })?;
+        let moment = after_noon(number_of(moment, out));
+        push_copy(entries, moment, kind, out);
     }
-    Ok(())
+}
+
+/// Adds an entry with a copy of this kind.
+fn push_copy(entries: &mut Entries, moment: Moment, kind: &EntryKind, out: &mut Answer) {
+    if let Some(kind) = kept(kind.try_clone(), out) {
+        out.note(entries.push(Entry { moment, kind }));
+    }
 }
 
 /// Writes a list before its first entry and with all entries, and copies of its entries after it was taken apart and
 /// put together again.
-pub(crate) fn list(
-    alloc: Global,
-    table: &Table,
-    text: &str,
-    out: &mut String,
-) -> anyhow::Result<()> {
-    let entries = entries_of(alloc, table, text)?;
-    let copies = copies_of(alloc, entries.as_slice())?;
+pub(crate) fn list(alloc: Global, table: &Table, text: &str, out: &mut Answer) {
+    let entries = entries_of(alloc, table, text, out);
+    let copies = copies_of(alloc, entries.as_slice(), out);
     let is_empty = Entries::new(alloc).is_empty();
     let together = Entries::from_vec(entries.into_vec());
     push_list(table, is_empty, &together, copies.as_slice(), out)
@@ -62,94 +64,72 @@ fn push_list(
     was_empty: bool,
     together: &Entries,
     copies: &[Entry],
-    out: &mut String,
-) -> anyhow::Result<()> {
-    write!(out, "empty {was_empty}, then {}; ", together.is_empty())?;
+    out: &mut Answer,
+) {
+    out.either(was_empty, "empty true, then ", "empty false, then ");
+    out.either(together.is_empty(), "true; ", "false; ");
     push_copies(table, together.as_slice(), copies, out)
 }
 
 /// Copies of entries, one by one.
-fn copies_of(alloc: Global, entries: &[Entry]) -> anyhow::Result<Entries> {
+fn copies_of(alloc: Global, entries: &[Entry], out: &mut Answer) -> Entries {
     let mut copies = Entries::new(alloc);
     for entry in entries {
-        copies.push(entry.try_clone()?)?;
+        push_copy(&mut copies, entry.moment, &entry.kind, out);
     }
-    Ok(copies)
+    copies
 }
 
 /// Writes how many entries there are, how many equal their copy, and the copies.
-fn push_copies(
-    table: &Table,
-    entries: &[Entry],
-    copies: &[Entry],
-    out: &mut String,
-) -> anyhow::Result<()> {
+fn push_copies(table: &Table, entries: &[Entry], copies: &[Entry], out: &mut Answer) {
     let same = count_places(entries, copies);
-    write!(
-        out,
-        "{} entries, {same} are the same as their copy: ",
-        entries.len()
-    )?;
+    out.value(entries.len());
+    out.labeled(" entries, ", same);
+    out.text(" are the same as their copy: ");
     push_entries(table, copies, out)
 }
 
 /// Writes a list after an empty list and a copy of itself were appended.
-pub(crate) fn append(
-    alloc: Global,
-    table: &Table,
-    text: &str,
-    out: &mut String,
-) -> anyhow::Result<()> {
-    let mut entries = entries_of(alloc, table, text)?;
-    append_copy(alloc, &mut entries)?;
+pub(crate) fn append(alloc: Global, table: &Table, text: &str, out: &mut Answer) {
+    let mut entries = entries_of(alloc, table, text, out);
+    append_copy(alloc, &mut entries, out);
     push_entries(table, entries.as_slice(), out)
 }
 
 /// Appends an empty list and a copy of a list to it.
-fn append_copy(alloc: Global, entries: &mut Entries) -> anyhow::Result<()> {
-    let copies = entries.try_clone(alloc)?;
-    entries.append(Entries::new(alloc))?;
-    entries.append(copies)?;
-    Ok(())
+fn append_copy(alloc: Global, entries: &mut Entries, out: &mut Answer) {
+    if let Some(copies) = kept(entries.try_clone(alloc), out) {
+        out.note(entries.append(Entries::new(alloc)));
+        out.note(entries.append(copies));
+    }
 }
 
 /// Writes the numbers of entries, and of equal pairs as each entry is compared with each copy.
-pub(crate) fn distinct(
-    alloc: Global,
-    table: &Table,
-    text: &str,
-    out: &mut String,
-) -> anyhow::Result<()> {
-    let entries = entries_of(alloc, table, text)?;
-    let copies = entries.try_clone(alloc)?;
-    push_distinct(&entries, copies.as_slice(), out)
+pub(crate) fn distinct(alloc: Global, table: &Table, text: &str, out: &mut Answer) {
+    let entries = entries_of(alloc, table, text, out);
+    if let Some(copies) = kept(entries.try_clone(alloc), out) {
+        push_distinct(&entries, copies.as_slice(), out);
+    }
 }
 
 /// Writes how many entries there are, and how many copies equal them.
-fn push_distinct(entries: &Entries, copies: &[Entry], out: &mut String) -> anyhow::Result<()> {
-    push_numbers(entries, out)?;
+fn push_distinct(entries: &Entries, copies: &[Entry], out: &mut Answer) {
+    push_numbers(entries, out);
     push_pairs(entries.as_slice(), copies, out)
 }
 
 /// Writes how many entries there are, and how many of a kind.
-fn push_numbers(entries: &Entries, out: &mut String) -> anyhow::Result<()> {
+fn push_numbers(entries: &Entries, out: &mut Answer) {
     let clocks = count_clocks(entries.as_slice());
-    write!(
-        out,
-        "{} entries, {} from components, ",
-        entries.len(),
-        entries.component_count()
-    )?;
-    write!(
-        out,
-        "{} with a place, {clocks} of the clock; ",
-        entries.place_count()
-    )?;
-    Ok(())
+    out.value(entries.len());
+    out.labeled(" entries, ", entries.component_count());
+    out.labeled(" from components, ", entries.place_count());
+    out.labeled(" with a place, ", clocks);
+    out.text(" of the clock; ");
 }
 
 /// Writes how many copies equal their own entry, and how many pairs of an entry and a copy are equal.
-fn push_pairs(entries: &[Entry], copies: &[Entry], out: &mut String) -> anyhow::Result<()> {
+fn push_pairs(entries: &[Entry], copies: &[Entry], out: &mut Answer) {
     let own = count_places(entries, copies);
     let mut pairs: usize = 0;
     let mut same: usize = 0;
@@ -157,13 +137,11 @@ fn push_pairs(entries: &[Entry], copies: &[Entry], out: &mut String) -> anyhow::
         pairs = pairs.saturating_add(copies.len());
         same = same.saturating_add(count_same(entry, copies));
     }
-    write!(
-        out,
-        "{} copies, {own} are the same as their entry; ",
-        copies.len()
-    )?;
-    write!(out, "of {pairs} pairs {same} are the same")?;
-    Ok(())
+    out.value(copies.len());
+    out.labeled(" copies, ", own);
+    out.labeled(" are the same as their entry; of ", pairs);
+    out.labeled(" pairs ", same);
+    out.text(" are the same");
 }
 
 /// How many entries equal this one.

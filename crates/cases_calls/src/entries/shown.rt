@@ -14,9 +14,9 @@
 //! An ID or a NUMBER is `none` if it is absent. A NUMBER is its nature of address, a colon and its digits. FOUND is
 //! `missing`, `wrong-key`, `no-record`, or `record` and the digits of the called numbers that have it.
 
-use crate::texts::{push_digits, push_text, push_tid};
-use crate::values::NOON;
-use cases::push_octets;
+use crate::texts::{push_digits, push_or, push_tid};
+use crate::values::{NOON, kept};
+use cases::Answer;
 use fp_apdu::{Name, Opening};
 use fp_digits::{Moment, Number, read_called};
 use fp_entry::{Arrival, Entry, EntryKind, Fault, Found, Incoming, Prepared};
@@ -28,13 +28,10 @@ use fp_records::{Record, Table};
 const LAST_OCTETS: [u8; 4] = [0x06, 0x07, 0x08, 0x09];
 
 /// Writes how many entries are from components, the frame, and the prepared message.
-pub(crate) fn push_prepared(
-    table: &Table,
-    prepared: &Prepared,
-    out: &mut String,
-) -> anyhow::Result<()> {
-    write!(out, "components {}, ", prepared.components())?;
-    push_arrival(prepared.arrival(), out)?;
+pub(crate) fn push_prepared(table: &Table, prepared: &Prepared, out: &mut Answer) {
+    out.labeled("components ", prepared.components());
+    out.text(", ");
+    push_arrival(prepared.arrival(), out);
     match prepared {
         Prepared::Message { incoming, .. } => push_incoming(table, incoming, out),
         Prepared::Refused { fault, .. } => push_refused(*fault, out),
@@ -43,68 +40,66 @@ pub(crate) fn push_prepared(
 }
 
 /// Writes the entries of a message.
-fn push_incoming(table: &Table, incoming: &Incoming, out: &mut String) -> anyhow::Result<()> {
-    write!(out, ", elements {}: ", incoming.elements)?;
+fn push_incoming(table: &Table, incoming: &Incoming, out: &mut Answer) {
+    out.labeled(", elements ", incoming.elements);
+    out.text(": ");
     push_entries(table, incoming.entries.as_slice(), out)
 }
 
 /// Writes why a message is refused.
-fn push_refused(fault: Fault, out: &mut String) -> anyhow::Result<()> {
-    write!(out, ", refused: {fault}")?;
-    Ok(())
+fn push_refused(fault: Fault, out: &mut Answer) {
+    out.labeled(", refused: ", fault);
 }
 
 /// Writes the octets of a lost frame.
-fn push_lost(arrival: &Arrival, out: &mut String) -> anyhow::Result<()> {
-    out.push_str(", lost: ")?;
-    push_octets(out, arrival.frame.octets())
+fn push_lost(arrival: &Arrival, out: &mut Answer) {
+    out.text(", lost: ");
+    out.octets(arrival.frame.octets())
 }
 
 /// Writes the identifiers of a received frame, how many octets it has, and its moment.
-fn push_arrival(arrival: &Arrival, out: &mut String) -> anyhow::Result<()> {
-    write!(out, "{:?} from ", arrival.ids.kind)?;
-    push_tid(out, arrival.ids.orig)?;
-    out.push_str(" to ")?;
-    push_tid(out, arrival.ids.dest)?;
-    write!(out, ", {} octets", arrival.frame.octets().len())?;
+fn push_arrival(arrival: &Arrival, out: &mut Answer) {
+    out.shown(&arrival.ids.kind);
+    out.text(" from ");
+    push_tid(out, arrival.ids.orig);
+    out.text(" to ");
+    push_tid(out, arrival.ids.dest);
+    out.labeled(", ", arrival.frame.octets().len());
+    out.text(" octets");
     push_moment(arrival.moment, out)
 }
 
 /// Writes a moment, in milliseconds after noon.
-fn push_moment(moment: Moment, out: &mut String) -> anyhow::Result<()> {
+fn push_moment(moment: Moment, out: &mut Answer) {
     match moment.milliseconds().checked_sub(NOON) {
-        Some(milliseconds) => write!(out, " @{milliseconds}")?,
-        None => out.push_str(" before noon")?,
+        Some(milliseconds) => {
+            out.labeled(" @", milliseconds);
+        }
+        None => out.text(" before noon"),
     }
-    Ok(())
 }
 
 /// Writes entries in their order.
-pub(crate) fn push_entries(
-    table: &Table,
-    entries: &[Entry],
-    out: &mut String,
-) -> anyhow::Result<()> {
+pub(crate) fn push_entries(table: &Table, entries: &[Entry], out: &mut Answer) {
     if entries.is_empty() {
-        out.push_str("no entry")?;
+        out.text("no entry");
     }
     for (place, entry) in entries.iter().enumerate() {
         if place > 0 {
-            out.push_str("; ")?;
+            out.text("; ");
         }
-        push_entry(table, entry, out)?;
+        push_entry(table, entry, out);
     }
-    Ok(())
 }
 
 /// Writes an entry: its kind and its moment.
-fn push_entry(table: &Table, entry: &Entry, out: &mut String) -> anyhow::Result<()> {
-    push_kind(table, &entry.kind, out)?;
+fn push_entry(table: &Table, entry: &Entry, out: &mut Answer) {
+    push_kind(table, &entry.kind, out);
     push_moment(entry.moment, out)
 }
 
 /// Writes the kind of an entry.
-fn push_kind(table: &Table, kind: &EntryKind, out: &mut String) -> anyhow::Result<()> {
+fn push_kind(table: &Table, kind: &EntryKind, out: &mut Answer) {
     match kind {
         EntryKind::Opened(opening) => push_opening(opening, out),
         EntryKind::InitialDp {
@@ -129,7 +124,7 @@ fn push_kind(table: &Table, kind: &EntryKind, out: &mut String) -> anyhow::Resul
 }
 
 /// Writes the kind of an entry that isn't of a Begin or an Invoke.
-fn push_answer(kind: &EntryKind, out: &mut String) -> anyhow::Result<()> {
+fn push_answer(kind: &EntryKind, out: &mut Answer) {
     match kind {
         EntryKind::Result { identifier, last } => push_result(*identifier, *last, out),
         EntryKind::Error { identifier } => push_identifier("error ", Some(*identifier), out),
@@ -138,47 +133,40 @@ fn push_answer(kind: &EntryKind, out: &mut String) -> anyhow::Result<()> {
             identifier,
             problem,
         } => push_faulty(*identifier, *problem, out),
-        EntryKind::PeerEnd => push_text("peer-end", out),
-        EntryKind::PeerAbort => push_text("peer-abort", out),
-        EntryKind::Clock => push_text("clock", out),
-        _ => push_text("a Begin or an Invoke", out),
+        EntryKind::PeerEnd => out.text("peer-end"),
+        EntryKind::PeerAbort => out.text("peer-abort"),
+        EntryKind::Clock => out.text("clock"),
+        _ => out.text("a Begin or an Invoke"),
     }
 }
 
 /// Writes the opening of a Begin.
-fn push_opening(opening: &Opening, out: &mut String) -> anyhow::Result<()> {
+fn push_opening(opening: &Opening, out: &mut Answer) {
     match opening {
-        Opening::None => push_text("opened none", out),
-        Opening::Known(name) => push_name("opened known ", name, out),
-        Opening::Unknown(name) => push_name("opened unknown ", name, out),
-        Opening::BadVersion(name) => push_name("opened bad-version ", name, out),
+        Opening::None => out.text("opened none"),
+        Opening::Known(name) => push_named("opened known ", name, out),
+        Opening::Unknown(name) => push_named("opened unknown ", name, out),
+        Opening::BadVersion(name) => push_named("opened bad-version ", name, out),
     }
 }
 
 /// Writes a text and an application context name.
-pub(crate) fn push_name(text: &str, name: &Name, out: &mut String) -> anyhow::Result<()> {
-    out.push_str(text)?;
-    push_octets(out, name.as_slice())
+pub(crate) fn push_named(text: &str, name: &Name, out: &mut Answer) {
+    out.text(text);
+    out.octets(name.as_slice())
 }
 
 /// Writes the identifiers of an Invoke.
-fn push_invoke(
-    word: &str,
-    identifier: i8,
-    linked: Option<i8>,
-    out: &mut String,
-) -> anyhow::Result<()> {
-    write!(out, "{word} {identifier}")?;
+fn push_invoke(word: &str, identifier: i8, linked: Option<i8>, out: &mut Answer) {
+    out.text(word);
+    out.labeled(" ", identifier);
     push_identifier(" linked ", linked, out)
 }
 
 /// Writes a text and an identifier, or `none` for an absent one.
-fn push_identifier(text: &str, identifier: Option<i8>, out: &mut String) -> anyhow::Result<()> {
-    match identifier {
-        Some(identifier) => write!(out, "{text}{identifier}")?,
-        None => write!(out, "{text}none")?,
-    }
-    Ok(())
+fn push_identifier(text: &str, identifier: Option<i8>, out: &mut Answer) {
+    out.text(text);
+    push_or(out, identifier, "none");
 }
 
 /// Writes an InitialDP.
@@ -188,19 +176,20 @@ fn push_initial_dp(
     linked: Option<i8>,
     calling: Option<Number>,
     found: &Found,
-    out: &mut String,
-) -> anyhow::Result<()> {
-    push_invoke("initial-dp", identifier, linked, out)?;
-    push_calling(calling, out)?;
+    out: &mut Answer,
+) {
+    push_invoke("initial-dp", identifier, linked, out);
+    push_calling(calling, out);
     push_found(table, found, out)
 }
 
 /// Writes a calling number, if there is one: its nature of address and its digits.
-fn push_calling(number: Option<Number>, out: &mut String) -> anyhow::Result<()> {
+fn push_calling(number: Option<Number>, out: &mut Answer) {
     let Some(number) = number else {
-        return push_text(" calling none", out);
+        return out.text(" calling none");
     };
-    write!(out, " calling {}:", number.nature.code())?;
+    out.labeled(" calling ", number.nature.code());
+    out.text(":");
     push_digits(out, number.digits.as_slice())
 }
 
@@ -210,16 +199,12 @@ fn push_event(
     linked: Option<i8>,
     event: Event,
     notification: bool,
-    out: &mut String,
-) -> anyhow::Result<()> {
-    let answer = if notification {
-        "notification"
-    } else {
-        "request"
-    };
-    push_invoke("event", identifier, linked, out)?;
-    write!(out, " {event:?} {answer}")?;
-    Ok(())
+    out: &mut Answer,
+) {
+    push_invoke("event", identifier, linked, out);
+    out.text(" ");
+    out.shown(&event);
+    out.either(notification, " notification", " request");
 }
 
 /// Writes another Invoke.
@@ -227,69 +212,65 @@ fn push_unknown_invoke(
     identifier: i8,
     linked: Option<i8>,
     problem: InvokeProblem,
-    out: &mut String,
-) -> anyhow::Result<()> {
-    push_invoke("unknown-invoke", identifier, linked, out)?;
-    write!(out, " {problem:?}")?;
-    Ok(())
+    out: &mut Answer,
+) {
+    push_invoke("unknown-invoke", identifier, linked, out);
+    out.text(" ");
+    out.shown(&problem);
 }
 
 /// Writes a ReturnResult.
-fn push_result(identifier: i8, last: bool, out: &mut String) -> anyhow::Result<()> {
-    let last = if last { "last" } else { "not-last" };
-    write!(out, "result {identifier} {last}")?;
-    Ok(())
+fn push_result(identifier: i8, last: bool, out: &mut Answer) {
+    push_identifier("result ", Some(identifier), out);
+    out.either(last, " last", " not-last");
 }
 
 /// Writes a faulty component.
-fn push_faulty(
-    identifier: Option<i8>,
-    problem: GeneralProblem,
-    out: &mut String,
-) -> anyhow::Result<()> {
-    push_identifier("faulty ", identifier, out)?;
-    write!(out, " {problem:?}")?;
-    Ok(())
+fn push_faulty(identifier: Option<i8>, problem: GeneralProblem, out: &mut Answer) {
+    push_identifier("faulty ", identifier, out);
+    out.text(" ");
+    out.shown(&problem);
 }
 
 /// Writes the table's answer to a called number.
-fn push_found(table: &Table, found: &Found, out: &mut String) -> anyhow::Result<()> {
+fn push_found(table: &Table, found: &Found, out: &mut Answer) {
     match found {
-        Found::Missing => push_text(" missing", out),
-        Found::WrongKey => push_text(" wrong-key", out),
-        Found::NoRecord => push_text(" no-record", out),
+        Found::Missing => out.text(" missing"),
+        Found::WrongKey => out.text(" wrong-key"),
+        Found::NoRecord => out.text(" no-record"),
         Found::Record(shared) => push_record(table, shared.record(), out),
     }
 }
 
 /// Writes what the calls of a prepared message find.
-pub(crate) fn push_called(
-    table: &Table,
-    prepared: &Prepared,
-    out: &mut String,
-) -> anyhow::Result<()> {
+pub(crate) fn push_called(table: &Table, prepared: &Prepared, out: &mut Answer) {
     let Prepared::Message { incoming, .. } = prepared else {
-        return push_text(" no message", out);
+        return out.text(" no message");
     };
     for entry in incoming.entries.as_slice() {
         if let EntryKind::InitialDp { found, .. } = &entry.kind {
-            push_found(table, found, out)?;
+            push_found(table, found, out);
         }
     }
-    Ok(())
 }
 
 /// Writes the called numbers that have a record.
-fn push_record(table: &Table, record: &Record, out: &mut String) -> anyhow::Result<()> {
-    out.push_str(" record")?;
+fn push_record(table: &Table, record: &Record, out: &mut Answer) {
+    out.text(" record");
     for last in LAST_OCTETS {
-        let called = read_called(&[0x83, 0x10, 0x08, 0x10, 0x32, 0x54, last])?;
-        if has_record(table, &called, record) {
-            out.push(' ')?;
-            push_digits(out, called.digits.as_slice())?;
+        let called = read_called(&[0x83, 0x10, 0x08, 0x10, 0x32, 0x54, last]);
+        if let Some(called) = kept(called, out) {
+            push_holder(table, &called, record, out);
         }
     }
-    Ok(())
+}
+
+/// Writes a called number after a blank, if it has this record.
+fn push_holder(table: &Table, called: &Number, record: &Record, out: &mut Answer) {
+    if has_record(table, called, record) {
+        out.text(" ");
+        push_digits(out, called.digits.as_slice());
+    }
 }
 
 /// Whether a called number has this record.

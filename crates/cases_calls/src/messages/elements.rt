@@ -1,8 +1,8 @@
 //! Elements as text: tags and contents, without lengths.
 
 use crate::texts::push_hexadecimal;
+use cases::Answer;
 use fp_ber::{Class, ElementRef, Elements};
-use std::fmt::Write;
 
 /// The bits of a class in the first octet of a tag (X.690, 8.1.2.2).
 fn class_bits(class: Class) -> u8 {
@@ -15,54 +15,49 @@ fn class_bits(class: Class) -> u8 {
 }
 
 /// Writes a tag: its octet, or its class and number if they don't fit into one octet.
-fn push_tag(out: &mut String, class: Class, form: u8, number: u16) -> anyhow::Result<()> {
+fn push_tag(out: &mut Answer, class: Class, form: u8, number: u16) {
     if number > 30 {
-        return Ok(write!(out, "{class:?}-{number}")?);
+        out.shown(&class);
+        return out.labeled("-", number);
     }
-    let octet = class_bits(class) | form | number as u8;
-    Ok(write!(out, "{octet:02X}")?)
+    out.octets(&[class_bits(class) | form | number as u8]);
 }
 
 /// Writes an element: its tag, and its octets or its elements.
 #[cycle(texts)]
-pub(crate) fn push_element(out: &mut String, element: &ElementRef<'_>) -> anyhow::Result<()> {
+pub(crate) fn push_element(out: &mut Answer, element: &ElementRef<'_>) {
     if let Some(octets) = element.octets() {
-        push_tag(out, element.class(), 0x00, element.number())?;
-        out.push_str(":")?;
-        push_hexadecimal(out, octets)?;
+        push_tag(out, element.class(), 0x00, element.number());
+        out.text(":");
+        push_hexadecimal(out, octets);
     }
     if let Some(children) = element.children() {
-        push_tag(out, element.class(), 0x20, element.number())?;
-        push_elements(out, &children)?;
+        push_tag(out, element.class(), 0x20, element.number());
+        push_elements(out, &children);
     }
-    Ok(())
 }
 
 /// Writes elements, one after another.
 #[cycle(texts)]
-fn push_elements(out: &mut String, elements: &Elements<'_>) -> anyhow::Result<()> {
+fn push_elements(out: &mut Answer, elements: &Elements<'_>) {
     let mut is_first = true;
-    out.push_str("(")?;
+    out.text("(");
     let mut left = *elements;
     'elements: while let Some(split) = left.split_first() {
         if !is_first {
-            out.push_str(" ")?;
+            out.text(" ");
         }
         is_first = false;
-        push_element(out, &split.first)?;
+        push_element(out, &split.first);
         left = split.rest;
     }
-    out.push_str(")")?;
-    Ok(())
+    out.text(")");
 }
 
 /// Writes an element, or `none`.
-pub(crate) fn push_optional(
-    out: &mut String,
-    element: Option<ElementRef<'_>>,
-) -> anyhow::Result<()> {
+pub(crate) fn push_optional(out: &mut Answer, element: Option<ElementRef<'_>>) {
     match element {
         Some(element) => push_element(out, &element),
-        None => Ok(out.push_str("none")?),
+        None => out.text("none"),
     }
 }

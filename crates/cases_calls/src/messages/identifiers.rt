@@ -1,34 +1,36 @@
 //! Transaction identifiers, and the identifiers in octets that need not be a message.
 
-use crate::texts::{push_tid, push_value};
+use crate::texts::{push_or, push_tid};
 use crate::values::tid_of;
-use cases::push_octets;
+use cases::{Answer, octets_of};
 use fp_q773::{Tid, ids_of};
 use std::alloc::Global;
-use std::fmt::Write;
 
 /// The transaction identifier of these octets, or `none`.
-pub(crate) fn transaction(alloc: Global, text: &str, out: &mut String) -> anyhow::Result<()> {
-    let octets = hex::decode(alloc, text)?;
-    push_tid(out, Tid::new(octets.as_slice()))
+pub(crate) fn transaction(alloc: Global, text: &str, out: &mut Answer) {
+    let octets = octets_of(alloc, text, out);
+    push_tid(out, Tid::new(octets.as_slice()));
 }
 
 /// The transaction identifier of a number.
-pub(crate) fn identifier_of(text: &str, out: &mut String) -> anyhow::Result<()> {
-    push_octets(out, Tid::of_number(text.parse()?).as_slice())
+pub(crate) fn identifier_of(text: &str, out: &mut Answer) {
+    let tid = Tid::of_number(cases::number_of(text, out));
+    out.octets(tid.as_slice());
 }
 
 /// The number of a transaction identifier, or `none`.
-pub(crate) fn number_of(alloc: Global, text: &str, out: &mut String) -> anyhow::Result<()> {
-    push_value(out, tid_of(alloc, text)?.number(), "none")
+pub(crate) fn number_of(alloc: Global, text: &str, out: &mut Answer) {
+    let tid = tid_of(alloc, text, out);
+    push_or(out, tid.number(), "none");
 }
 
 /// The kind and the transaction identifiers of these octets.
-pub(crate) fn identifiers(alloc: Global, text: &str, out: &mut String) -> anyhow::Result<()> {
-    let octets = hex::decode(alloc, text)?;
+pub(crate) fn identifiers(alloc: Global, text: &str, out: &mut Answer) {
+    let octets = octets_of(alloc, text, out);
     let ids = ids_of(octets.as_slice());
-    write!(out, "{:?}, originating ", ids.kind)?;
-    push_tid(out, ids.orig)?;
-    out.push_str(", destination ")?;
-    push_tid(out, ids.dest)
+    out.shown(&ids.kind);
+    out.text(", originating ");
+    push_tid(out, ids.orig);
+    out.text(", destination ");
+    push_tid(out, ids.dest);
 }

@@ -36,7 +36,7 @@ use crate::elements::{new_writer, push_written};
 use crate::messages::written::components::{components_in, held_of};
 use crate::messages::written::portions::{dialogue_of, lent};
 use crate::values::tid_of;
-use cases::first_word;
+use cases::{Answer, first_word, number_of};
 use fp_ber::ElementRef;
 use fp_q773::{Abort, AbortReason, Begin, Component, Continue, End, Message, Tid, write_message};
 use std::alloc::Global;
@@ -50,14 +50,15 @@ enum Frame {
 }
 
 /// Writes the octets of a message that is written.
-fn push_message(alloc: Global, message: &Message<'_>, out: &mut String) -> anyhow::Result<()>
+fn push_message(alloc: Global, message: &Message<'_>, out: &mut Answer)
     requires writable { IsWritableMessage (message_value message.now) }
     requires tags { CopiesHaveTags (message_value message.now) }
     requires room { message_room (message_value message.now) < 2 ^ 32 }
 {
-    let mut writer = new_writer(alloc)?;
-    write_message(message, &mut writer)?;
-    push_written(out, writer)
+    if let Some(mut writer) = new_writer(alloc, out) {
+        out.note(write_message(message, &mut writer));
+        push_written(out, writer);
+    }
 }
 
 /// Writes the octets of a message with these portions.
@@ -66,8 +67,8 @@ fn push_portions(
     frame: Frame,
     dialogue: Option<ElementRef<'_>>,
     components: Vec<Component<'_>>,
-    out: &mut String,
-) -> anyhow::Result<()>
+    out: &mut Answer,
+)
     requires its_dialogue { IsWritableDialogue (tree_in dialogue) }
     requires dialogue_tags { CopyHasTags (tree_in dialogue) }
     requires dialogue_room { tree_room (tree_in dialogue) ≤ 1000 }
@@ -102,54 +103,51 @@ fn push_words(
     frame: Frame,
     dialogue: Option<ElementRef<'_>>,
     words: &str,
-    out: &mut String,
-) -> anyhow::Result<()>
+    out: &mut Answer,
+)
     requires its_dialogue { IsWritableDialogue (tree_in dialogue) }
     requires dialogue_tags { CopyHasTags (tree_in dialogue) }
     requires dialogue_room { tree_room (tree_in dialogue) ≤ 1000 }
 {
-    let held = held_of(alloc, words)?;
-    let components = components_in(alloc, held.as_slice())?;
-    push_portions(alloc, frame, dialogue, components, out)
+    let held = held_of(alloc, words, out);
+    match components_in(alloc, held.as_slice(), out) {
+        Some(components) => push_portions(alloc, frame, dialogue, components, out),
+        None => out.run_out(),
+    }
 }
 
 /// The octets of a message with a dialogue portion and components.
-fn with_portions(alloc: Global, frame: Frame, text: &str, out: &mut String) -> anyhow::Result<()> {
+fn with_portions(alloc: Global, frame: Frame, text: &str, out: &mut Answer) {
     let (dialogue, words) = first_word(text);
-    let dialogue = dialogue_of(alloc, dialogue)?;
+    let dialogue = dialogue_of(alloc, dialogue, out);
     push_words(alloc, frame, lent(dialogue.as_ref()), words, out)
 }
 
 /// The octets of a Begin.
-fn begin(alloc: Global, text: &str, out: &mut String) -> anyhow::Result<()> {
+fn begin(alloc: Global, text: &str, out: &mut Answer) {
     let (originating, text) = first_word(text);
-    let frame = Frame::Begin(tid_of(alloc, originating)?);
+    let frame = Frame::Begin(tid_of(alloc, originating, out));
     with_portions(alloc, frame, text, out)
 }
 
 /// The octets of an End.
-fn end(alloc: Global, text: &str, out: &mut String) -> anyhow::Result<()> {
+fn end(alloc: Global, text: &str, out: &mut Answer) {
     let (destination, text) = first_word(text);
-    let frame = Frame::End(tid_of(alloc, destination)?);
+    let frame = Frame::End(tid_of(alloc, destination, out));
     with_portions(alloc, frame, text, out)
 }
 
 /// The octets of a Continue.
-fn continuing(alloc: Global, text: &str, out: &mut String) -> anyhow::Result<()> {
+fn continuing(alloc: Global, text: &str, out: &mut Answer) {
     let (originating, text) = first_word(text);
     let (destination, text) = first_word(text);
-    let originating = tid_of(alloc, originating)?;
-    let destination = tid_of(alloc, destination)?;
+    let originating = tid_of(alloc, originating, out);
+    let destination = tid_of(alloc, destination, out);
     with_portions(alloc, Frame::Continue(originating, destination), text, out)
 }
 
 /// Writes the octets of an Abort with this reason.
-fn push_abort(
-    alloc: Global,
-    destination: Tid,
-    reason: Option<AbortReason<'_>>,
-    out: &mut String,
-) -> anyhow::Result<()>
+fn push_abort(alloc: Global, destination: Tid, reason: Option<AbortReason<'_>>, out: &mut Answer)
     requires writable { IsWritableReason (option_map reason_of reason) }
     requires tags { ReasonHasTags (option_map reason_of reason) }
     requires room { reason_room (option_map reason_of reason) ≤ 1000 }
@@ -162,24 +160,14 @@ fn push_abort(
 }
 
 /// The octets of an Abort of the provider, with this cause.
-fn provider_abort(
-    alloc: Global,
-    destination: Tid,
-    cause: &str,
-    out: &mut String,
-) -> anyhow::Result<()> {
-    let cause: u8 = cause.parse()?;
+fn provider_abort(alloc: Global, destination: Tid, cause: &str, out: &mut Answer) {
+    let cause: u8 = number_of(cause, out);
     push_abort(alloc, destination, Some(AbortReason::Provider(cause)), out)
 }
 
 /// The octets of an Abort of the user, with this dialogue portion.
-fn user_abort(
-    alloc: Global,
-    destination: Tid,
-    dialogue: &str,
-    out: &mut String,
-) -> anyhow::Result<()> {
-    let dialogue = dialogue_of(alloc, dialogue)?;
+fn user_abort(alloc: Global, destination: Tid, dialogue: &str, out: &mut Answer) {
+    let dialogue = dialogue_of(alloc, dialogue, out);
     match dialogue.as_ref() {
         Some(dialogue) => push_abort(
             alloc,
@@ -187,25 +175,25 @@ fn user_abort(
             Some(AbortReason::User(ElementRef::Owned(dialogue))),
             out,
         ),
-        None => anyhow::bail!("no dialogue portion"),
+        None => out.fail("no dialogue portion"),
     }
 }
 
 /// The octets of an Abort.
-fn abort(alloc: Global, text: &str, out: &mut String) -> anyhow::Result<()> {
+fn abort(alloc: Global, text: &str, out: &mut Answer) {
     let (destination, text) = first_word(text);
-    let destination = tid_of(alloc, destination)?;
+    let destination = tid_of(alloc, destination, out);
     let (kind, reason) = first_word(text);
     match kind {
         "" => push_abort(alloc, destination, None, out),
         "cause" => provider_abort(alloc, destination, reason, out),
         "dialogue" => user_abort(alloc, destination, reason, out),
-        _ => anyhow::bail!("no such reason"),
+        _ => out.fail("no such reason"),
     }
 }
 
 /// The octets of a message.
-pub(crate) fn write(alloc: Global, text: &str, out: &mut String) -> anyhow::Result<()> {
+pub(crate) fn write(alloc: Global, text: &str, out: &mut Answer) {
     let (kind, rest) = first_word(text);
     match kind {
         "unidirectional" => push_message(alloc, &Message::Unidirectional, out),
@@ -213,6 +201,6 @@ pub(crate) fn write(alloc: Global, text: &str, out: &mut String) -> anyhow::Resu
         "end" => end(alloc, rest, out),
         "continue" => continuing(alloc, rest, out),
         "abort" => abort(alloc, rest, out),
-        _ => anyhow::bail!("no such message"),
+        _ => out.fail("no such message"),
     }
 }

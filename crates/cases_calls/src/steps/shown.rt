@@ -19,11 +19,12 @@
 //! | `error ID ERROR` | a ReturnError |
 //! | `reject ID PROBLEM`, `reject ? PROBLEM` | a Reject |
 
-use crate::entries::push_name;
+use crate::entries::push_named;
 use crate::invocations::push_active;
 use crate::records::push_destinations;
-use crate::texts::{push_digits, push_text};
+use crate::texts::push_digits;
 use crate::values::NOON;
+use cases::Answer;
 use fp_apdu::Name;
 use fp_digits::Cause;
 use fp_inap::OperationError;
@@ -33,60 +34,53 @@ use fp_records::{Destination, Destinations};
 use fp_service::{AbortPortion, Component, Core, Instruction, Request, Stage, State};
 
 /// Writes a core.
-pub(crate) fn push_core(core: &Core, out: &mut String) -> anyhow::Result<()> {
+pub(crate) fn push_core(core: &Core, out: &mut Answer) {
     let state = core.state();
     if core.is_over() != state.is_over() {
-        anyhow::bail!("a core that is over in part");
+        out.fail("a core that is over in part");
     }
-    push_state(&state, out)?;
-    push_invocations(&core.invocations(), out)?;
-    write!(out, ", due {}", core.next_due().saturating_sub(NOON))?;
-    Ok(())
+    push_state(&state, out);
+    push_ors(&core.invocations(), out);
+    out.labeled(", due ", core.next_due().saturating_sub(NOON));
 }
 
 /// Writes a state.
-fn push_state(state: &State, out: &mut String) -> anyhow::Result<()> {
+fn push_state(state: &State, out: &mut Answer) {
     match state {
-        State::Live(Stage::Fresh) => push_text("fresh", out),
+        State::Live(Stage::Fresh) => out.text("fresh"),
         State::Live(Stage::Waiting { left }) => push_waiting(left, out),
-        State::Over => push_text("over", out),
+        State::Over => out.text("over"),
     }
 }
 
 /// Writes the invocations of a core.
-fn push_invocations(invocations: &Invocations, out: &mut String) -> anyhow::Result<()> {
-    out.push_str(", active")?;
-    push_active(invocations, out)?;
-    write!(out, ", next {}", invocations.next())?;
-    Ok(())
+fn push_ors(invocations: &Invocations, out: &mut Answer) {
+    out.text(", active");
+    push_active(invocations, out);
+    out.labeled(", next ", invocations.next());
 }
 
 /// Writes `waiting` and the remaining destinations, if there are any.
-fn push_waiting(left: &Option<Destinations>, out: &mut String) -> anyhow::Result<()> {
-    out.push_str("waiting")?;
+fn push_waiting(left: &Option<Destinations>, out: &mut Answer) {
+    out.text("waiting");
     if let Some(left) = left {
-        out.push(' ')?;
-        push_destinations(out, left)?;
+        out.character(' ');
+        push_destinations(out, left);
     }
-    Ok(())
 }
 
 /// Writes the core after an entry, and the request.
-pub(crate) fn push_served(
-    core: &Core,
-    request: &Option<Request>,
-    out: &mut String,
-) -> anyhow::Result<()> {
-    push_core(core, out)?;
-    out.push_str(": ")?;
+pub(crate) fn push_served(core: &Core, request: &Option<Request>, out: &mut Answer) {
+    push_core(core, out);
+    out.text(": ");
     match request {
         Some(request) => push_request(request, out),
-        None => push_text("none", out),
+        None => out.text("none"),
     }
 }
 
 /// Writes a request.
-fn push_request(request: &Request, out: &mut String) -> anyhow::Result<()> {
+fn push_request(request: &Request, out: &mut Answer) {
     match request {
         Request::Continue {
             acceptance,
@@ -101,41 +95,34 @@ fn push_request(request: &Request, out: &mut String) -> anyhow::Result<()> {
 }
 
 /// Writes a Continue or an End.
-fn push_answer(
-    word: &str,
-    acceptance: &Option<Name>,
-    components: &[Component],
-    out: &mut String,
-) -> anyhow::Result<()> {
-    out.push_str(word)?;
-    push_acceptance(acceptance, out)?;
+fn push_answer(word: &str, acceptance: &Option<Name>, components: &[Component], out: &mut Answer) {
+    out.text(word);
+    push_acceptance(acceptance, out);
     for component in components {
-        out.push_str(", ")?;
-        push_component(component, out)?;
+        out.text(", ");
+        push_component(component, out);
     }
-    Ok(())
 }
 
 /// Writes the AARE in a Continue or an End, if there is one.
-fn push_acceptance(acceptance: &Option<Name>, out: &mut String) -> anyhow::Result<()> {
-    match acceptance {
-        Some(name) => push_name(" aare accepted ", name, out),
-        None => Ok(()),
+fn push_acceptance(acceptance: &Option<Name>, out: &mut Answer) {
+    if let Some(name) = acceptance {
+        push_named(" aare accepted ", name, out);
     }
 }
 
 /// Writes the dialogue portion of an Abort.
-fn push_abort(portion: &AbortPortion, out: &mut String) -> anyhow::Result<()> {
+fn push_abort(portion: &AbortPortion, out: &mut Answer) {
     match portion {
-        AbortPortion::Absent => push_text("abort", out),
-        AbortPortion::Abrt => push_text("abort abrt", out),
-        AbortPortion::NoName(name) => push_name("abort aare name-not-supported ", name, out),
-        AbortPortion::NoVersion(name) => push_name("abort aare no-common-version ", name, out),
+        AbortPortion::Absent => out.text("abort"),
+        AbortPortion::Abrt => out.text("abort abrt"),
+        AbortPortion::NoName(name) => push_named("abort aare name-not-supported ", name, out),
+        AbortPortion::NoVersion(name) => push_named("abort aare no-common-version ", name, out),
     }
 }
 
 /// Writes a component.
-fn push_component(component: &Component, out: &mut String) -> anyhow::Result<()> {
+fn push_component(component: &Component, out: &mut Answer) {
     match component {
         Component::Invoke {
             identifier,
@@ -150,41 +137,45 @@ fn push_component(component: &Component, out: &mut String) -> anyhow::Result<()>
 }
 
 /// Writes an Invoke.
-fn push_invoke(identifier: i8, instruction: &Instruction, out: &mut String) -> anyhow::Result<()> {
-    write!(out, "invoke {identifier} ")?;
+fn push_invoke(identifier: i8, instruction: &Instruction, out: &mut Answer) {
+    out.labeled("invoke ", identifier);
+    out.text(" ");
     match instruction {
         Instruction::Connect(destination) => push_connect(destination, out),
         Instruction::ReleaseCall(cause) => push_release(*cause, out),
-        Instruction::RequestReportBcsmEvent => push_text("RequestReportBCSMEvent", out),
-        Instruction::Continue => push_text("Continue", out),
-        Instruction::ActivityTest => push_text("ActivityTest", out),
+        Instruction::RequestReportBcsmEvent => out.text("RequestReportBCSMEvent"),
+        Instruction::Continue => out.text("Continue"),
+        Instruction::ActivityTest => out.text("ActivityTest"),
     }
 }
 
 /// Writes a Connect.
-fn push_connect(destination: &Destination, out: &mut String) -> anyhow::Result<()> {
-    out.push_str("Connect ")?;
+fn push_connect(destination: &Destination, out: &mut Answer) {
+    out.text("Connect ");
     let digits = destination.digits();
     push_digits(out, digits.as_slice())
 }
 
 /// Writes a ReleaseCall.
-fn push_release(cause: Cause, out: &mut String) -> anyhow::Result<()> {
-    write!(out, "ReleaseCall {cause:?}")?;
-    Ok(())
+fn push_release(cause: Cause, out: &mut Answer) {
+    out.text("ReleaseCall ");
+    out.shown(&cause);
 }
 
 /// Writes a ReturnError.
-fn push_error(identifier: i8, error: OperationError, out: &mut String) -> anyhow::Result<()> {
-    write!(out, "error {identifier} {error:?}")?;
-    Ok(())
+fn push_error(identifier: i8, error: OperationError, out: &mut Answer) {
+    out.labeled("error ", identifier);
+    out.text(" ");
+    out.shown(&error);
 }
 
 /// Writes a Reject.
-fn push_reject(identifier: Option<i8>, problem: Problem, out: &mut String) -> anyhow::Result<()> {
+fn push_reject(identifier: Option<i8>, problem: Problem, out: &mut Answer) {
+    out.text("reject ");
     match identifier {
-        Some(identifier) => write!(out, "reject {identifier} {problem:?}")?,
-        None => write!(out, "reject ? {problem:?}")?,
+        Some(identifier) => out.value(identifier),
+        None => out.text("?"),
     }
-    Ok(())
+    out.text(" ");
+    out.shown(&problem);
 }

@@ -2,15 +2,13 @@
 
 use super::texts::{letter_of, push_posted};
 use crate::held::{push_parcel, served};
-use crate::messages::{frame_of, prepared};
+use crate::messages::prepared;
 use crate::texts::moment_after;
-use anyhow::bail;
+use cases::Answer;
 use fp_book::{Book, Given, Parcel, Picked, Posted, Taken};
-use fp_entry::Prepared;
 use fp_records::Table;
 use fp_row::Turn;
 use std::alloc::Global;
-use std::fmt::Write;
 
 /// The limit on turns and on parcels of a step.
 const MOST: u32 = 100_000;
@@ -49,68 +47,69 @@ pub(super) fn posts(
     now: u32,
     count: u32,
     message: &str,
-    out: &mut String,
-) -> anyhow::Result<()> {
-    let frame = frame_of(alloc, message)?;
-    let mut first = None;
+    out: &mut Answer,
+) {
+    let mut first = Posted::Discarded;
     let mut last = Posted::Discarded;
     for index in 0..count {
-        let moment = moment_after(now.saturating_add(index))?;
-        let came = Prepared::read(alloc, table, &[], frame.try_clone()?, moment);
+        let moment = moment_after(now.saturating_add(index));
+        let Some(came) = prepared(alloc, table, moment, message, out) else {
+            return;
+        };
         last = book.post(alloc, came);
-        if letter_of(*first.get_or_insert(last)) != letter_of(last) {
-            bail!("answers of two kinds");
+        if index == 0 {
+            first = last;
+        }
+        if letter_of(first) != letter_of(last) {
+            return out.fail("answers of two kinds");
         }
     }
-    push_posts(out, count, first.unwrap_or(last), last)
+    push_posts(out, count as usize, first, last);
 }
 
 /// Writes what several messages were answered.
-pub(crate) fn push_posts(
-    out: &mut String,
-    count: u32,
-    first: Posted,
-    last: Posted,
-) -> anyhow::Result<()> {
-    write!(out, "{count} ")?;
-    push_posted(out, first)?;
-    out.push_str(" to ")?;
+pub(crate) fn push_posts(out: &mut Answer, count: usize, first: Posted, last: Posted) {
+    out.value(count);
+    out.text(" ");
+    push_posted(out, first);
+    out.text(" to ");
     push_posted(out, last)
 }
 
 /// Serves a turn and gives it back, and counts it.
-fn give(alloc: Global, book: &mut Book, turn: Turn, all: &mut Served) -> anyhow::Result<()> {
-    let done = served(alloc, turn)?;
+fn give(alloc: Global, book: &mut Book, turn: Turn, all: &mut Served, out: &mut Answer) {
+    let Some(done) = served(alloc, turn, out) else {
+        return;
+    };
     let count = done.served();
     match book.give(done) {
-        Ok(given) => {
-            all.count(count, given);
-            Ok(())
-        }
+        Ok(given) => all.count(count, given),
         Err(done) => {
             done.abandon();
-            bail!("strange turn");
+            out.fail("strange turn");
         }
     }
 }
 
 /// Takes, serves and gives turns until there is none.
-pub(super) fn serve_all(alloc: Global, book: &mut Book, served: &mut Served) -> anyhow::Result<()> {
+pub(super) fn serve_all(alloc: Global, book: &mut Book, served: &mut Served, out: &mut Answer) {
     for _ in 0..MOST {
         match book.take() {
-            Taken::Turn(turn) => give(alloc, book, turn, served)?,
-            Taken::Nothing | Taken::NoRoom => return Ok(()),
-            Taken::Memory => bail!("out of memory"),
+            Taken::Turn(turn) => give(alloc, book, turn, served, out),
+            Taken::Nothing | Taken::NoRoom => return,
+            Taken::Memory => return out.run_out(),
         }
     }
-    bail!("too many turns")
+    out.fail("too many turns");
 }
 
 /// Writes how many turns were given, how many entries were served, and how many frames then waited.
-pub(super) fn push_served(out: &mut String, all: Served) -> anyhow::Result<()> {
-    write!(out, "{} turns, {} served", all.turns, all.served)?;
-    write!(out, ", {} frames", all.queued)?;
-    Ok(())
+pub(super) fn push_served(out: &mut Answer, all: Served) {
+    out.value(all.turns);
+    out.labeled(" turns, ", all.served);
+    out.text(" served");
+    out.labeled(", ", all.queued);
+    out.text(" frames");
 }
 
 /// Posts a message `count` times, which is accepted, and serves all turns after each.
@@ -121,55 +120,60 @@ pub(super) fn rounds(
     now: u32,
     count: u32,
     message: &str,
-) -> anyhow::Result<Served> {
+    out: &mut Answer,
+) {
     let mut served = NONE;
     for _ in 0..count {
-        let came = prepared(alloc, table, moment_after(now)?, message)?;
-        let Posted::Accepted(_) = book.post(alloc, came) else {
-            bail!("not accepted");
+        let Some(came) = prepared(alloc, table, moment_after(now), message, out) else {
+            return;
         };
-        serve_all(alloc, book, &mut served)?;
+        let Posted::Accepted(_) = book.post(alloc, came) else {
+            return out.fail("not accepted");
+        };
+        serve_all(alloc, book, &mut served, out);
     }
-    Ok(served)
+    push_served(out, served);
 }
 
 /// Reports a parcel sent.
-fn report(book: &mut Book, parcel: Parcel) -> anyhow::Result<()> {
-    match book.sent(parcel) {
-        Ok(()) => Ok(()),
-        Err(parcel) => {
-            parcel.abandon();
-            bail!("strange parcel");
-        }
+fn report(book: &mut Book, parcel: Parcel, out: &mut Answer) {
+    if let Err(parcel) = book.sent(parcel) {
+        parcel.abandon();
+        out.fail("strange parcel");
     }
 }
 
-/// Picks parcels and reports them sent until there is none: how many. What the last one held is written to `last`.
-fn send_each(book: &mut Book, last: &mut String) -> anyhow::Result<u32> {
+/// Picks parcels and reports them sent until there is none: how many. The last one is written to `last`.
+fn send_each(book: &mut Book, last: &mut Answer) -> u32 {
     for count in 0..MOST {
         match book.pick() {
             Picked::Parcel(parcel) => {
                 last.clear();
-                let written = push_parcel(last, &parcel);
-                report(book, parcel)?;
-                written?;
+                push_parcel(last, &parcel);
+                report(book, parcel, last);
             }
-            Picked::Nothing => return Ok(count),
-            Picked::Busy => bail!("busy"),
+            Picked::Nothing => return count,
+            Picked::Busy => {
+                last.fail("busy");
+                return count;
+            }
         }
     }
-    bail!("too many parcels")
+    last.fail("too many parcels");
+    MOST
 }
 
-/// Picks parcels and reports them sent until there is none, and writes how many, and what the last one held.
-pub(super) fn send_all(alloc: Global, book: &mut Book, out: &mut String) -> anyhow::Result<()> {
-    let mut last = String::from_str(alloc, "none")?;
-    let count = send_each(book, &mut last)?;
-    write!(out, "{count} parcels, last {last}")?;
-    Ok(())
+/// Picks parcels and reports them sent until there is none, and writes how many, and the last one.
+pub(super) fn send_all(alloc: Global, book: &mut Book, out: &mut Answer) {
+    let mut last = Answer::new(alloc);
+    last.text("none");
+    out.value(send_each(book, &mut last));
+    out.text(" parcels, last ");
+    out.append(&last);
 }
 
-/// Posts a message, serves all turns and sends all parcels, `count` times: what the last message was answered.
+/// Posts a message, serves all turns and sends all parcels, `count` times, and writes what the last message was
+/// answered.
 pub(super) fn calls(
     alloc: Global,
     table: &Table,
@@ -177,15 +181,21 @@ pub(super) fn calls(
     now: u32,
     count: u32,
     message: &str,
-) -> anyhow::Result<Posted> {
+    out: &mut Answer,
+) {
     let mut last = Posted::Discarded;
-    let mut sent = String::new(alloc);
+    let mut sent = Answer::new(alloc);
     for _ in 0..count {
-        let came = prepared(alloc, table, moment_after(now)?, message)?;
+        let Some(came) = prepared(alloc, table, moment_after(now), message, out) else {
+            return;
+        };
         last = book.post(alloc, came);
         let mut served = NONE;
-        serve_all(alloc, book, &mut served)?;
-        send_each(book, &mut sent)?;
+        serve_all(alloc, book, &mut served, out);
+        send_each(book, &mut sent);
     }
-    Ok(last)
+    if sent.is_faulty() {
+        out.fail(sent.fault());
+    }
+    push_posted(out, last);
 }

@@ -1,7 +1,7 @@
 //! What the calls of a book answer, as a log writes it.
 
+use cases::Answer;
 use fp_book::{Given, Posted, Totals};
-use std::fmt::Write;
 
 /// What became of a message, in one letter.
 pub(crate) fn letter_of(posted: Posted) -> &'static str {
@@ -15,15 +15,14 @@ pub(crate) fn letter_of(posted: Posted) -> &'static str {
 }
 
 /// Writes what became of a message.
-pub(crate) fn push_posted(out: &mut String, posted: Posted) -> anyhow::Result<()> {
-    out.push_str(letter_of(posted))?;
+pub(crate) fn push_posted(out: &mut Answer, posted: Posted) {
+    out.text(letter_of(posted));
     match posted {
-        Posted::Opened(local) => write!(out, "{local:08X}")?,
-        Posted::Accepted(count) => write!(out, "{count}")?,
-        Posted::Aborted(cause) => write!(out, "{}", cause.code())?,
+        Posted::Opened(local) => out.identifier(local),
+        Posted::Accepted(count) => out.value(count),
+        Posted::Aborted(cause) => out.value(cause.code()),
         Posted::Ended | Posted::Discarded => {}
     }
-    Ok(())
 }
 
 /// What became of a request, in one letter.
@@ -36,22 +35,22 @@ pub(crate) fn given_letter(given: Given) -> &'static str {
 }
 
 /// Writes what was counted.
-pub(crate) fn push_totals(out: &mut String, totals: Totals) -> anyhow::Result<()> {
+pub(crate) fn push_totals(out: &mut Answer, totals: Totals) {
     let Totals {
         accepted,
         served,
         sent,
     } = totals;
-    write!(out, "accepted {accepted} served {served} sent {sent}")?;
-    Ok(())
+    out.labeled("accepted ", accepted);
+    out.labeled(" served ", served);
+    out.labeled(" sent ", sent);
 }
 
 /// Writes what became of requests.
-pub(crate) fn push_given(out: &mut String, given: Given) -> anyhow::Result<()> {
-    out.push_str(given_letter(given))?;
+pub(crate) fn push_given(out: &mut Answer, given: Given) {
+    out.text(given_letter(given));
     match given {
         Given::Silent => {}
-        Given::Queued(count) | Given::Dropped(count) => write!(out, "{count}")?,
+        Given::Queued(count) | Given::Dropped(count) => out.value(count),
     }
-    Ok(())
 }

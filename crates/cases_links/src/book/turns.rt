@@ -4,30 +4,25 @@ use super::texts::push_given;
 use crate::held::{
     Held, Named, find, find_parcel, find_served, keep, push_parcel, push_served_count,
 };
-use crate::texts::{name_of, push_text};
+use crate::texts::name_of;
+use cases::Answer;
 use fp_book::{Book, InPlace, Picked, Taken};
 use std::alloc::Global;
-use std::fmt::Write;
 
 /// Takes the next turn, and keeps it.
-pub(super) fn take(
-    book: &mut Book,
-    turns: &mut Vec<Named>,
-    name: &str,
-    out: &mut String,
-) -> anyhow::Result<()> {
-    let name = name_of(name)?;
+pub(super) fn take(book: &mut Book, turns: &mut Vec<Named>, name: &str, out: &mut Answer) {
+    let name = name_of(name, out);
     match book.take() {
-        Taken::Nothing => out.push_str("nothing")?,
-        Taken::NoRoom => out.push_str("no room")?,
-        Taken::Memory => out.push_str("no memory")?,
+        Taken::Nothing => out.text("nothing"),
+        Taken::NoRoom => out.text("no room"),
+        Taken::Memory => out.text("no memory"),
         Taken::Turn(turn) => {
-            let (local, position, count) = (turn.local(), turn.position(), turn.count());
+            out.identifier(turn.local());
+            out.labeled(" ", turn.position());
+            out.labeled(" ", turn.count());
             keep(turns, name, Held::Turn(turn));
-            write!(out, "{local:08X} {position} {count}")?;
         }
     }
-    Ok(())
 }
 
 /// Serves the turn of a name, if it wasn't, and gives it back.
@@ -36,88 +31,81 @@ pub(super) fn give(
     book: &mut Book,
     turns: &mut Vec<Named>,
     name: &str,
-    out: &mut String,
-) -> anyhow::Result<()> {
-    let name = name_of(name)?;
-    let done = find_served(alloc, turns, name)?;
+    out: &mut Answer,
+) {
+    let name = name_of(name, out);
+    let Some(done) = find_served(alloc, turns, name, out) else {
+        return;
+    };
     let count = done.served();
     match book.give(done) {
         Ok(given) => {
-            push_served_count(out, count)?;
+            push_served_count(out, count);
             push_given(out, given)
         }
         Err(done) => {
             keep(turns, name, Held::Done(done));
-            push_text(out, "strange")
+            out.text("strange")
         }
     }
 }
 
 /// Serves the next turn in its place.
-pub(super) fn serve_next(book: &mut Book, out: &mut String) -> anyhow::Result<()> {
+pub(super) fn serve_next(book: &mut Book, out: &mut Answer) {
     match book.serve() {
-        InPlace::Nothing => push_text(out, "nothing"),
-        InPlace::NoRoom => push_text(out, "no room"),
-        InPlace::Memory => push_text(out, "no memory"),
+        InPlace::Nothing => out.text("nothing"),
+        InPlace::NoRoom => out.text("no room"),
+        InPlace::Memory => out.text("no memory"),
         InPlace::Served { count, given } => {
-            push_served_count(out, count)?;
+            push_served_count(out, count);
             push_given(out, given)
         }
     }
 }
 
 /// Puts the turn of a name back.
-pub(super) fn put_back(
-    book: &mut Book,
-    turns: &mut Vec<Named>,
-    name: &str,
-    out: &mut String,
-) -> anyhow::Result<()> {
-    let name = name_of(name)?;
-    let held = match find(turns, name)? {
-        Held::Turn(turn) => match book.put_back(turn) {
-            Ok(()) => return push_text(out, "back"),
-            Err(turn) => Held::Turn(turn),
+pub(super) fn put_back(book: &mut Book, turns: &mut Vec<Named>, name: &str, out: &mut Answer) {
+    let name = name_of(name, out);
+    match find(turns, name, out) {
+        Some(Held::Turn(turn)) => match book.put_back(turn) {
+            Ok(()) => out.text("back"),
+            Err(turn) => {
+                keep(turns, name, Held::Turn(turn));
+                out.text("strange");
+            }
         },
-        held => held,
-    };
-    keep(turns, name, held);
-    push_text(out, "strange")
+        Some(held) => {
+            keep(turns, name, held);
+            out.text("strange");
+        }
+        None => {}
+    }
 }
 
 /// Picks what is sent next, and keeps it.
-pub(super) fn pick(
-    book: &mut Book,
-    parcels: &mut Vec<Named>,
-    name: &str,
-    out: &mut String,
-) -> anyhow::Result<()> {
-    let name = name_of(name)?;
+pub(super) fn pick(book: &mut Book, parcels: &mut Vec<Named>, name: &str, out: &mut Answer) {
+    let name = name_of(name, out);
     match book.pick() {
-        Picked::Busy => out.push_str("busy")?,
-        Picked::Nothing => out.push_str("nothing")?,
+        Picked::Busy => out.text("busy"),
+        Picked::Nothing => out.text("nothing"),
         Picked::Parcel(parcel) => {
-            let written = push_parcel(out, &parcel);
+            push_parcel(out, &parcel);
             keep(parcels, name, Held::Parcel(parcel));
-            written?;
         }
     }
-    Ok(())
 }
 
 /// Reports the parcel of a name sent.
-pub(super) fn report_sent(
-    book: &mut Book,
-    parcels: &mut Vec<Named>,
-    name: &str,
-    out: &mut String,
-) -> anyhow::Result<()> {
-    let name = name_of(name)?;
-    match book.sent(find_parcel(parcels, name)?) {
-        Ok(()) => push_text(out, "sent"),
+pub(super) fn report_sent(book: &mut Book, parcels: &mut Vec<Named>, name: &str, out: &mut Answer) {
+    let name = name_of(name, out);
+    let Some(parcel) = find_parcel(parcels, name, out) else {
+        return;
+    };
+    match book.sent(parcel) {
+        Ok(()) => out.text("sent"),
         Err(parcel) => {
             keep(parcels, name, Held::Parcel(parcel));
-            push_text(out, "strange")
+            out.text("strange")
         }
     }
 }
@@ -127,14 +115,17 @@ pub(super) fn report_unsent(
     book: &mut Book,
     parcels: &mut Vec<Named>,
     name: &str,
-    out: &mut String,
-) -> anyhow::Result<()> {
-    let name = name_of(name)?;
-    match book.unsent(find_parcel(parcels, name)?) {
-        Ok(()) => push_text(out, "unsent"),
+    out: &mut Answer,
+) {
+    let name = name_of(name, out);
+    let Some(parcel) = find_parcel(parcels, name, out) else {
+        return;
+    };
+    match book.unsent(parcel) {
+        Ok(()) => out.text("unsent"),
         Err(parcel) => {
             keep(parcels, name, Held::Parcel(parcel));
-            push_text(out, "strange")
+            out.text("strange")
         }
     }
 }

@@ -13,6 +13,7 @@ use super::templates::{Aimed, Known, NOTHING, push_bad, push_begin, push_continu
 use crate::messages::frame_of;
 use crate::numbering::Numbering;
 use crate::texts::moment_after;
+use cases::{Answer, Steps};
 use fp_steps::Step;
 use std::alloc::Global;
 
@@ -93,24 +94,24 @@ impl Drawn {
     }
 
     /// A message aimed at a dialogue.
-    fn push_aimed(&mut self, draws: &mut Draws, text: &mut String) -> anyhow::Result<Known> {
+    fn push_aimed(&mut self, draws: &mut Draws, text: &mut Answer) -> Known {
         let peer = self.messages.saturating_add(0x7700);
         let local = self.local(draws);
         let aim = aim_of(draws.below(32), local, self.numbering.tag);
         let number = self.number;
         let aimed = Aimed { peer, aim, number };
         let known = match draws.below(32) {
-            0 | 1 => push_ending(text, draws.below(4), aimed)?,
-            2 => push_bad(text, draws.below(8), peer, aim)?,
-            _ if number > LAST_NUMBER => push_continue(self.alloc, text, 0, aimed)?,
-            _ => push_continue(self.alloc, text, draws.below(16), aimed)?,
+            0 | 1 => push_ending(text, draws.below(4), aimed),
+            2 => push_bad(text, draws.below(8), peer, aim),
+            _ if number > LAST_NUMBER => push_continue(self.alloc, text, 0, aimed),
+            _ => push_continue(self.alloc, text, draws.below(16), aimed),
         };
         self.number = number.saturating_add(known.components);
-        Ok(known)
+        known
     }
 
     /// A message: the first two are Begins, and of the others one of four is.
-    fn push_message(&mut self, draws: &mut Draws, text: &mut String) -> anyhow::Result<Known> {
+    fn push_message(&mut self, draws: &mut Draws, text: &mut Answer) -> Known {
         self.messages = self.messages.saturating_add(1);
         if self.messages > 2 && draws.below(4) != 0 {
             return self.push_aimed(draws, text);
@@ -121,126 +122,118 @@ impl Drawn {
     }
 
     /// One step more.
-    fn add(&mut self, step: Step, known: Known) -> anyhow::Result<()> {
-        self.steps.push(step)?;
-        self.known.push(known)?;
-        Ok(())
+    fn add(&mut self, step: Step, known: Known, out: &mut Answer) {
+        out.push(&mut self.steps, step);
+        out.push(&mut self.known, known);
     }
 
     /// One step more, which has no message.
-    fn add_plain(&mut self, step: Step) -> anyhow::Result<()> {
-        self.add(step, NOTHING)
+    fn add_plain(&mut self, step: Step, out: &mut Answer) {
+        self.add(step, NOTHING, out);
     }
 
-    /// A message that comes now.
-    fn post(&mut self, text: &str, known: Known) -> anyhow::Result<()> {
-        let moment = moment_after(self.now)?;
-        let frame = frame_of(self.alloc, text)?;
-        self.add(
+    /// A message that comes now, which can't be read if it is lost.
+    fn post(&mut self, text: &str, known: Known, is_lost: bool, out: &mut Answer) {
+        let moment = moment_after(self.now);
+        let Some(frame) = frame_of(self.alloc, text, out) else {
+            return;
+        };
+        let step = if is_lost {
+            Step::Lost(frame, moment)
+        } else {
             Step::Post {
                 table: 0,
                 frame,
                 moment,
-            },
-            known,
-        )
+            }
+        };
+        self.add(step, known, out);
     }
 
     /// A call from its Begin to its frame, the one of this number.
-    fn add_call(&mut self, number: u32) -> anyhow::Result<()> {
-        let mut text = String::new(self.alloc);
-        push_begin(&mut text, number, 6)?;
-        self.post(text.as_str(), NOTHING)?;
-        self.add_plain(Step::Take)?;
+    fn add_call(&mut self, number: u32, out: &mut Answer) {
+        let mut text = Answer::new(self.alloc);
+        push_begin(&mut text, number, 6);
+        self.post(text.as_str(), NOTHING, false, out);
+        self.add_plain(Step::Take, out);
         let serial = serial_after(1, number);
-        self.add_plain(Step::Give(self.numbering.base().saturating_add(serial)))?;
-        self.add_plain(Step::Pick)?;
-        self.add_plain(Step::Sent)
+        let local = self.numbering.base().saturating_add(serial);
+        self.add_plain(Step::Give(local), out);
+        self.add_plain(Step::Pick, out);
+        self.add_plain(Step::Sent, out);
     }
 
     /// The calls before all else.
-    fn add_calls(&mut self) -> anyhow::Result<()> {
+    fn add_calls(&mut self, out: &mut Answer) {
         for number in 0..self.calls {
-            self.add_call(number)?;
+            self.add_call(number, out);
         }
         self.lead = self.steps.len();
-        Ok(())
     }
 
     /// One step more, which has a message.
-    fn add_message(&mut self, draws: &mut Draws, is_lost: bool) -> anyhow::Result<()> {
-        let mut text = String::new(self.alloc);
-        let known = self.push_message(draws, &mut text)?;
-        if !is_lost {
-            return self.post(text.as_str(), known);
-        }
-        let moment = moment_after(self.now)?;
-        let frame = frame_of(self.alloc, text.as_str())?;
-        self.add(Step::Lost(frame, moment), known)
+    fn add_message(&mut self, draws: &mut Draws, is_lost: bool, out: &mut Answer) {
+        let mut text = Answer::new(self.alloc);
+        let known = self.push_message(draws, &mut text);
+        self.post(text.as_str(), known, is_lost, out);
     }
 
     /// One tick more.
-    fn add_tick(&mut self, draws: &mut Draws) -> anyhow::Result<()> {
+    fn add_tick(&mut self, draws: &mut Draws, out: &mut Answer) {
         self.now = self.now.saturating_add(pause_of(draws.below(32)));
-        let moment = moment_after(self.now)?;
-        self.add_plain(Step::Tick(moment))
+        self.add_plain(Step::Tick(moment_after(self.now)), out);
     }
 
     /// A turn of one of the first five dialogues, whichever comes.
-    fn add_turn(&mut self) -> anyhow::Result<()> {
-        self.add_plain(Step::Take)?;
+    fn add_turn(&mut self, out: &mut Answer) {
+        self.add_plain(Step::Take, out);
         for places in 0..5 {
-            self.add_plain(Step::Give(self.local_after(places)))?;
+            self.add_plain(Step::Give(self.local_after(places)), out);
         }
-        Ok(())
     }
 
     /// Five parcels, if there are five.
-    fn add_frames(&mut self) -> anyhow::Result<()> {
+    fn add_frames(&mut self, out: &mut Answer) {
         for _ in 0..5 {
-            self.add_plain(Step::Pick)?;
-            self.add_plain(Step::Sent)?;
+            self.add_plain(Step::Pick, out);
+            self.add_plain(Step::Sent, out);
         }
-        Ok(())
     }
 
     /// One step more, which may end the link.
-    fn add_end(&mut self, draws: &mut Draws) -> anyhow::Result<()> {
-        if draws.below(4) == 0 {
-            self.add_plain(Step::Down)
-        } else {
-            self.add_plain(Step::Unsent)
-        }
+    fn add_end(&mut self, draws: &mut Draws, out: &mut Answer) {
+        let is_end = draws.below(4) == 0;
+        self.add_plain(if is_end { Step::Down } else { Step::Unsent }, out);
     }
 
     /// One step more without a message, or the steps of a turn or of a few parcels.
-    fn add_other(&mut self, draws: &mut Draws, draw: u32) -> anyhow::Result<()> {
+    fn add_other(&mut self, draws: &mut Draws, draw: u32, out: &mut Answer) {
         match draw {
-            29..=48 => self.add_plain(Step::Take),
+            29..=48 => self.add_plain(Step::Take, out),
             49..=68 => {
                 let local = self.local(draws);
-                self.add_plain(Step::Give(local))
+                self.add_plain(Step::Give(local), out);
             }
             69..=73 => {
                 let local = self.local(draws);
-                self.add_plain(Step::PutBack(local))
+                self.add_plain(Step::PutBack(local), out);
             }
-            74..=83 => self.add_plain(Step::Pick),
-            84..=93 => self.add_plain(Step::Sent),
-            94..=103 => self.add_frames(),
-            _ => self.add_turn(),
+            74..=83 => self.add_plain(Step::Pick, out),
+            84..=93 => self.add_plain(Step::Sent, out),
+            94..=103 => self.add_frames(out),
+            _ => self.add_turn(out),
         }
     }
 
     /// One step more, or the steps of a turn or of a few parcels, which it draws.
-    fn add_drawn(&mut self, draws: &mut Draws) -> anyhow::Result<()> {
+    fn add_drawn(&mut self, draws: &mut Draws, out: &mut Answer) {
         self.now = self.now.saturating_add(1);
         match draws.below(128) {
-            0..=23 => self.add_message(draws, false),
-            24 => self.add_message(draws, true),
-            25..=28 => self.add_tick(draws),
-            127 => self.add_end(draws),
-            draw => self.add_other(draws, draw),
+            0..=23 => self.add_message(draws, false, out),
+            24 => self.add_message(draws, true, out),
+            25..=28 => self.add_tick(draws, out),
+            127 => self.add_end(draws, out),
+            draw => self.add_other(draws, draw, out),
         }
     }
 }
@@ -252,7 +245,8 @@ pub(super) fn draw_steps(
     numbering: Numbering,
     calls: u32,
     count: u32,
-) -> anyhow::Result<Drawn> {
+    out: &mut Answer,
+) -> Drawn {
     let mut drawn = Drawn {
         steps: Vec::new(alloc),
         known: Vec::new(alloc),
@@ -265,12 +259,12 @@ pub(super) fn draw_steps(
         begins: 0,
         number: 32,
     };
-    drawn.add_calls()?;
-    let most = drawn.lead.saturating_add(usize::try_from(count)?);
+    drawn.add_calls(out);
+    let most = drawn.lead.saturating_add(count as usize);
     for _ in 0..count {
         if drawn.known.len() < most {
-            drawn.add_drawn(draws)?;
+            drawn.add_drawn(draws, out);
         }
     }
-    Ok(drawn)
+    drawn
 }

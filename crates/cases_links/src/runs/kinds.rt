@@ -1,9 +1,9 @@
 //! How many steps and outputs of each kind there were.
 
 use super::octets::is_test;
+use cases::Answer;
 use fp_book::{Given, Posted};
 use fp_steps::{Output, Step};
-use std::fmt::Write;
 
 /// The kinds of steps, by their numbers from 0.
 const STEPS: &str = "post, lost, tick, take, give, put-back, pick, sent, unsent, down";
@@ -90,16 +90,16 @@ fn count_one(counts: &mut [u32], kind: usize) {
 }
 
 /// Writes how many of each kind there were.
-fn push_counts(out: &mut String, names: &str, counts: &[u32]) -> anyhow::Result<()> {
+fn push_counts(out: &mut Answer, names: &str, counts: &[u32]) {
     let mut is_first = true;
     for (name, count) in names.split(", ").zip(counts) {
         if !is_first {
-            out.push_str(", ")?;
+            out.text(", ");
         }
-        write!(out, "{name} {count}")?;
+        out.value(name);
+        out.labeled(" ", count);
         is_first = false;
     }
-    Ok(())
 }
 
 impl Tally {
@@ -124,11 +124,10 @@ impl Tally {
     }
 
     /// Writes how many of each kind there were.
-    pub(super) fn push_to(&self, out: &mut String) -> anyhow::Result<()> {
-        push_counts(out, STEPS, &self.steps)?;
-        out.push_str("; ")?;
-        push_counts(out, OUTPUTS, &self.outputs)?;
-        write!(out, "; compared {}", self.compared)?;
-        Ok(())
+    pub(super) fn push_to(&self, out: &mut Answer) {
+        push_counts(out, STEPS, &self.steps);
+        out.text("; ");
+        push_counts(out, OUTPUTS, &self.outputs);
+        out.labeled("; compared ", self.compared);
     }
 }

@@ -6,7 +6,7 @@
 //!   out.
 //! * Each output has its line, except those that a log has none for, and there are no others.
 
-use anyhow::bail;
+use cases::Answer;
 use fp_book::{Line, LoggedStep, Posted};
 use fp_steps::{Output, Step};
 use std::alloc::Global;
@@ -54,10 +54,11 @@ fn birth_in(line: &Line) -> Option<u64> {
 
 impl Births {
     /// A dialogue is opened.
-    fn open(&mut self, local: u32) -> anyhow::Result<()> {
+    fn open(&mut self, local: u32, out: &mut Answer) {
         self.opened = self.opened.saturating_add(1);
-        self.births.insert(local, self.opened)?;
-        Ok(())
+        if self.births.insert(local, self.opened).is_err() {
+            out.run_out();
+        }
     }
 
     /// The local identifier that an output is about, if it is about a dialogue or a parcel.
@@ -76,28 +77,46 @@ impl Births {
     }
 
     /// Follows an output.
-    fn follow(&mut self, output: &Output) -> anyhow::Result<()> {
+    fn follow(&mut self, output: &Output, out: &mut Answer) {
         match output {
             Output::Posted {
                 answer: Posted::Opened(local),
                 ..
-            } => self.open(*local)?,
+            } => self.open(*local, out),
             Output::Picked { local, .. } => self.parcel = *local,
             _ => {}
         }
-        Ok(())
     }
 
-    /// Fails unless a line has the birth that its output tells.
-    fn check(&self, step: &Step, output: &Output, line: &Line) -> anyhow::Result<()> {
+    /// Whether a line has the birth that its output tells.
+    fn is_right(&self, step: &Step, output: &Output, line: &Line) -> bool {
         let wanted = match self.local_of(step, output) {
             Some(local) => self.births.get(&local).copied(),
             None => None,
         };
-        if birth_in(line) != wanted {
-            bail!("another birth");
+        birth_in(line) == wanted
+    }
+
+    /// Checks the lines of a run, after their head, against its outputs, and returns how many lines these have.
+    fn check(
+        &mut self,
+        steps: &[Step],
+        outputs: &[Output],
+        lines: &[Line],
+        out: &mut Answer,
+    ) -> usize {
+        let mut place = 1;
+        for (step, output) in steps.iter().zip(outputs) {
+            if is_logged(output) {
+                match lines.get(place) {
+                    Some(line) if self.is_right(step, output, line) => {}
+                    _ => out.fail("a line of another birth, or too few lines"),
+                }
+                place = place.saturating_add(1);
+            }
+            self.follow(output, out);
         }
-        Ok(())
+        place
     }
 }
 
@@ -107,26 +126,17 @@ pub(super) fn check_births(
     steps: &[Step],
     outputs: &[Output],
     lines: &[Line],
-) -> anyhow::Result<()> {
+    out: &mut Answer,
+) {
     let mut births = Births {
         births: BTreeMap::new(alloc),
         opened: 0,
         parcel: 0,
     };
-    births.births.insert(0, 0)?;
-    let mut place = 1;
-    for (step, output) in steps.iter().zip(outputs) {
-        if is_logged(output) {
-            let Some(line) = lines.get(place) else {
-                bail!("too few lines");
-            };
-            births.check(step, output, line)?;
-            place = place.saturating_add(1);
-        }
-        births.follow(output)?;
+    if births.births.insert(0, 0).is_err() {
+        out.run_out();
     }
-    if place != lines.len() {
-        bail!("too many lines");
+    if births.check(steps, outputs, lines, out) != lines.len() {
+        out.fail("too many lines");
     }
-    Ok(())
 }

@@ -2,9 +2,8 @@
 
 use crate::messages::frame_of;
 use crate::numbering::Numbering;
-use crate::texts::{local_of, moment_after};
-use anyhow::bail;
-use cases::first_word;
+use crate::texts::moment_after;
+use cases::{Answer, first_word, identifier_of, number_of};
 use fp_steps::Step;
 use std::alloc::Global;
 
@@ -52,17 +51,20 @@ pub(super) fn serial_after(serial: u32, places: u32) -> u32 {
     (before % SERIALS).saturating_add(1)
 }
 
-/// A step without a message or a moment.
-fn plain_step(verb: &str, rest: &str) -> anyhow::Result<Step> {
+/// A step without a message or a moment. `None` if there is none of this name, which is a fault of the answer.
+fn plain_step(verb: &str, rest: &str, out: &mut Answer) -> Option<Step> {
     match verb {
-        "take" => Ok(Step::Take),
-        "give" => Ok(Step::Give(local_of(rest)?)),
-        "put-back" => Ok(Step::PutBack(local_of(rest)?)),
-        "pick" => Ok(Step::Pick),
-        "sent" => Ok(Step::Sent),
-        "unsent" => Ok(Step::Unsent),
-        "down" => Ok(Step::Down),
-        _ => bail!("no step: {verb}"),
+        "take" => Some(Step::Take),
+        "give" => Some(Step::Give(identifier_of(rest, out))),
+        "put-back" => Some(Step::PutBack(identifier_of(rest, out))),
+        "pick" => Some(Step::Pick),
+        "sent" => Some(Step::Sent),
+        "unsent" => Some(Step::Unsent),
+        "down" => Some(Step::Down),
+        _ => {
+            out.fail("no such step");
+            None
+        }
     }
 }
 
@@ -79,141 +81,138 @@ impl Making {
     }
 
     /// One step more.
-    fn add(&mut self, step: Step) -> anyhow::Result<()> {
-        self.steps.push(step)?;
-        Ok(())
+    fn add(&mut self, step: Step, out: &mut Answer) {
+        out.push(&mut self.steps, step);
     }
 
     /// A message that comes now, and is read by the records of this place.
-    fn post(&mut self, table: usize, text: &str) -> anyhow::Result<()> {
-        let frame = frame_of(self.alloc, text)?;
-        let moment = moment_after(self.now)?;
-        self.add(Step::Post {
-            table,
-            frame,
-            moment,
-        })
+    fn post(&mut self, table: usize, text: &str, out: &mut Answer) {
+        let moment = moment_after(self.now);
+        if let Some(frame) = frame_of(self.alloc, text, out) {
+            self.add(
+                Step::Post {
+                    table,
+                    frame,
+                    moment,
+                },
+                out,
+            );
+        }
     }
 
     /// A message that comes now, after the place of the records by which it is read.
-    fn post_by(&mut self, text: &str) -> anyhow::Result<()> {
+    fn post_by(&mut self, text: &str, out: &mut Answer) {
         let (table, message) = first_word(text);
-        self.post(table.parse()?, message)
+        let table: usize = number_of(table, out);
+        self.post(table, message, out);
     }
 
     /// A message that comes now, and can't be read since memory runs out.
-    fn lose(&mut self, text: &str) -> anyhow::Result<()> {
-        let frame = frame_of(self.alloc, text)?;
-        let moment = moment_after(self.now)?;
-        self.add(Step::Lost(frame, moment))
-    }
-
-    /// The clock ticks now.
-    fn tick(&mut self) -> anyhow::Result<()> {
-        let moment = moment_after(self.now)?;
-        self.add(Step::Tick(moment))
+    fn lose(&mut self, text: &str, out: &mut Answer) {
+        let moment = moment_after(self.now);
+        if let Some(frame) = frame_of(self.alloc, text, out) {
+            self.add(Step::Lost(frame, moment), out);
+        }
     }
 
     /// A step without a message or a moment.
-    fn plain(&mut self, verb: &str, rest: &str) -> anyhow::Result<()> {
-        let step = plain_step(verb, rest)?;
-        self.add(step)
+    fn plain(&mut self, verb: &str, rest: &str, out: &mut Answer) {
+        if let Some(step) = plain_step(verb, rest, out) {
+            self.add(step, out);
+        }
     }
 
     /// It is this number of milliseconds after noon from now on.
-    fn wait(&mut self, milliseconds: &str) -> anyhow::Result<Asked> {
-        self.now = milliseconds.parse()?;
-        Ok(Asked::Moment(self.now))
+    fn wait(&mut self, milliseconds: &str, out: &mut Answer) -> Asked {
+        self.now = number_of(milliseconds, out);
+        Asked::Moment(self.now)
     }
 
     /// The same message COUNT times.
-    fn posts(&mut self, text: &str) -> anyhow::Result<Asked> {
+    fn posts(&mut self, text: &str, out: &mut Answer) -> Asked {
         let (count, message) = first_word(text);
-        let count: u32 = count.parse()?;
+        let count: u32 = number_of(count, out);
         for _ in 0..count {
-            self.post(0, message)?;
+            self.post(0, message, out);
         }
-        Ok(Asked::Ends)
+        Asked::Ends
     }
 
     /// Turns of a dialogue.
-    fn turns(&mut self, count: u32, local: u32) -> anyhow::Result<()> {
+    fn turns(&mut self, count: u32, local: u32, out: &mut Answer) {
         for _ in 0..count {
-            self.add(Step::Take)?;
-            self.add(Step::Give(local))?;
+            self.add(Step::Take, out);
+            self.add(Step::Give(local), out);
         }
-        Ok(())
     }
 
     /// COUNT times a message and turns of a dialogue.
-    fn rounds(&mut self, text: &str) -> anyhow::Result<Asked> {
+    fn rounds(&mut self, text: &str, out: &mut Answer) -> Asked {
         let (count, rest) = first_word(text);
         let (turns, rest) = first_word(rest);
         let (local, message) = first_word(rest);
-        let count: u32 = count.parse()?;
-        let turns: u32 = turns.parse()?;
-        let local = local_of(local)?;
+        let count: u32 = number_of(count, out);
+        let turns: u32 = number_of(turns, out);
+        let local = identifier_of(local, out);
         for _ in 0..count {
-            self.post(0, message)?;
-            self.turns(turns, local)?;
+            self.post(0, message, out);
+            self.turns(turns, local, out);
         }
-        Ok(Asked::Last(1))
+        Asked::Last(1)
     }
 
     /// A Begin, its turn and its frame.
-    fn call(&mut self, local: u32, message: &str) -> anyhow::Result<()> {
-        self.post(0, message)?;
-        self.turns(1, local)?;
-        self.add(Step::Pick)?;
-        self.add(Step::Sent)
+    fn call(&mut self, local: u32, message: &str, out: &mut Answer) {
+        self.post(0, message, out);
+        self.turns(1, local, out);
+        self.add(Step::Pick, out);
+        self.add(Step::Sent, out);
     }
 
     /// COUNT times a Begin, its turn and its frame.
-    fn calls(&mut self, text: &str) -> anyhow::Result<Asked> {
+    fn calls(&mut self, text: &str, out: &mut Answer) -> Asked {
         let (count, rest) = first_word(text);
         let (serial, message) = first_word(rest);
-        let count: u32 = count.parse()?;
-        let serial: u32 = serial.parse()?;
+        let count: u32 = number_of(count, out);
+        let serial: u32 = number_of(serial, out);
         for index in 0..count {
             let serial = serial_after(serial, index);
-            self.call(self.base.saturating_add(serial), message)?;
+            self.call(self.base.saturating_add(serial), message, out);
         }
-        Ok(Asked::Last(STEPS_OF_A_CALL))
+        Asked::Last(STEPS_OF_A_CALL)
     }
 
     /// Adds one step, and says what it must answer.
-    fn add_one(&mut self, verb: &str, rest: &str) -> anyhow::Result<Asked> {
-        let added = match verb {
-            "post" => self.post(0, rest),
-            "post-by" => self.post_by(rest),
-            "lost" => self.lose(rest),
-            "tick" => self.tick(),
-            _ => self.plain(verb, rest),
-        };
-        added?;
-        Ok(Asked::Last(1))
+    fn add_one(&mut self, verb: &str, rest: &str, out: &mut Answer) -> Asked {
+        match verb {
+            "post" => self.post(0, rest, out),
+            "post-by" => self.post_by(rest, out),
+            "lost" => self.lose(rest, out),
+            "tick" => self.add(Step::Tick(moment_after(self.now)), out),
+            _ => self.plain(verb, rest, out),
+        }
+        Asked::Last(1)
     }
 
     /// Adds what a part of a script asks for, and says what it must answer.
-    fn add_part(&mut self, text: &str) -> anyhow::Result<Asked> {
+    fn add_part(&mut self, text: &str, out: &mut Answer) -> Asked {
         let (verb, rest) = first_word(text);
         match verb {
-            "at" => self.wait(rest),
-            "totals" => Ok(Asked::Totals),
-            "posts" => self.posts(rest),
-            "rounds" => self.rounds(rest),
-            "calls" => self.calls(rest),
-            _ => self.add_one(verb, rest),
+            "at" => self.wait(rest, out),
+            "totals" => Asked::Totals,
+            "posts" => self.posts(rest, out),
+            "rounds" => self.rounds(rest, out),
+            "calls" => self.calls(rest, out),
+            _ => self.add_one(verb, rest, out),
         }
     }
 
     /// Adds what a script asks for.
-    pub(super) fn add_script(&mut self, script: &str) -> anyhow::Result<()> {
+    pub(super) fn add_script(&mut self, script: &str, out: &mut Answer) {
         for part in script.split(';') {
-            let asked = self.add_part(part.trim_start())?;
+            let asked = self.add_part(part.trim_start(), out);
             let end = self.steps.len();
-            self.parts.push(Part { asked, end })?;
+            out.push(&mut self.parts, Part { asked, end });
         }
-        Ok(())
     }
 }

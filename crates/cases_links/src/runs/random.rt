@@ -9,65 +9,60 @@ use super::texts::{push_output, totals_of};
 use super::watch::Watch;
 use crate::logged_runs::{log_of, push_report, text_of};
 use crate::numbering::Numbering;
-use anyhow::bail;
-use cases::first_word;
+use cases::{Answer, first_word, number_of};
 use fp_book::Line;
 use fp_records::Table;
 use fp_steps::{Output, totals};
 use std::alloc::Global;
-use std::fmt::Write;
 
-/// Fails, and says which output is wrong.
-fn fail(alloc: Global, place: usize, output: &Output) -> anyhow::Result<()> {
-    let mut text = String::new(alloc);
-    push_output(&mut text, output)?;
-    bail!("output {place}, {text}, is wrong")
+/// Notes that an output is wrong, and writes which.
+fn fail(place: usize, output: &Output, out: &mut Answer) {
+    out.labeled("output ", place);
+    out.text(", ");
+    push_output(out, output);
+    out.fail("it is wrong");
 }
 
 /// Checks each output after the calls before, and counts it and its step.
 fn check_each(
-    alloc: Global,
     watch: &mut Watch,
     tally: &mut Tally,
     drawn: &Drawn,
     outputs: &[Output],
-) -> anyhow::Result<()> {
+    out: &mut Answer,
+) {
     for (place, output) in outputs.iter().enumerate() {
         let (Some(step), Some(known)) = (drawn.steps.get(place), drawn.known.get(place)) else {
-            bail!("too many outputs");
+            return out.fail("too many outputs");
         };
         if place < drawn.lead {
             continue;
         }
         tally.add(step, output);
-        if !watch.is_right(step, *known, output)? {
-            return fail(alloc, place, output);
+        if !watch.is_right(step, *known, output, out) {
+            return fail(place, output, out);
         }
     }
-    Ok(())
 }
 
 /// Checks the outputs of a run after this number of calls, with serials that are added to `base`.
 fn check(
-    alloc: Global,
+    watch: &mut Watch,
     tally: &mut Tally,
-    base: u32,
-    calls: u32,
     drawn: &Drawn,
     outputs: &[Output],
-) -> anyhow::Result<()> {
-    let mut watch = Watch::new(alloc, base, calls);
-    check_each(alloc, &mut watch, tally, drawn, outputs)?;
+    out: &mut Answer,
+) {
+    check_each(watch, tally, drawn, outputs, out);
     tally.add_compared(watch.compared());
     if outputs.len() != drawn.steps.len() {
-        bail!("too few outputs");
+        return out.fail("too few outputs");
     }
     let count = outputs.len().saturating_sub(drawn.lead);
     let (_, own) = outputs.split_at(outputs.len().saturating_sub(count));
     if totals_of(own) != watch.totals() {
-        bail!("other totals");
+        out.fail("other totals");
     }
-    Ok(())
 }
 
 /// Replays the log of these lines, which has to have the totals of the run.
@@ -77,17 +72,15 @@ fn replay_log(
     link: u8,
     outputs: &[Output],
     lines: &[Line],
-) -> anyhow::Result<()> {
-    let text = text_of(alloc, lines)?;
-    let mut report = String::new(alloc);
-    push_report(
-        alloc,
-        tables,
-        link,
-        totals(outputs),
-        text.as_slice(),
-        &mut report,
-    )
+    out: &mut Answer,
+) {
+    let text = text_of(alloc, lines, out);
+    let mut report = Answer::new(alloc);
+    let totals = totals(outputs);
+    push_report(alloc, tables, link, totals, text.as_slice(), &mut report);
+    if report.is_faulty() {
+        out.append(&report);
+    }
 }
 
 /// Checks the log of a run: the births in its lines, and, if no calls come before, that it replays to the totals of the
@@ -98,14 +91,21 @@ fn check_log(
     numbering: Numbering,
     drawn: &Drawn,
     outputs: &[Output],
-) -> anyhow::Result<()> {
+    out: &mut Answer,
+) {
     let steps = drawn.steps.as_slice();
-    let lines = log_of(alloc, numbering, steps, outputs)?;
-    check_births(alloc, steps, outputs, lines.as_slice())?;
-    if drawn.lead > 0 {
-        return Ok(());
+    let lines = log_of(alloc, numbering, steps, outputs, out);
+    check_births(alloc, steps, outputs, lines.as_slice(), out);
+    if drawn.lead == 0 {
+        replay_log(
+            alloc,
+            tables,
+            numbering.link,
+            outputs,
+            lines.as_slice(),
+            out,
+        );
     }
-    replay_log(alloc, tables, numbering.link, outputs, lines.as_slice())
 }
 
 /// The tag of a run, how many calls it has before all else, and how many steps are drawn after them.
@@ -124,14 +124,15 @@ fn one(
     tally: &mut Tally,
     link: u8,
     kind: Kind,
-) -> anyhow::Result<()> {
+    out: &mut Answer,
+) {
     let Kind { tag, calls, steps } = kind;
     let numbering = Numbering { link, tag };
-    let base = numbering.base();
-    let drawn = draw_steps(alloc, draws, numbering, calls, steps)?;
-    let outputs = outputs_of(alloc, tables, numbering, drawn.steps.as_slice())?;
-    check(alloc, tally, base, calls, &drawn, outputs.as_slice())?;
-    check_log(alloc, tables, numbering, &drawn, outputs.as_slice())
+    let drawn = draw_steps(alloc, draws, numbering, calls, steps, out);
+    let outputs = outputs_of(alloc, tables, numbering, drawn.steps.as_slice(), out);
+    let mut watch = Watch::new(alloc, numbering.base(), calls);
+    check(&mut watch, tally, &drawn, outputs.as_slice(), out);
+    check_log(alloc, tables, numbering, &drawn, outputs.as_slice(), out);
 }
 
 /// The link of a run.
@@ -139,7 +140,7 @@ fn link_of(run: u32) -> u8 {
     u8::try_from(run % 8).unwrap_or(0)
 }
 
-/// Makes runs that are drawn, and checks them; of the first one that is wrong, its number and what is wrong with it.
+/// Makes runs that are drawn, and checks them, up to the first one that is wrong, whose number is written.
 fn each(
     alloc: Global,
     tables: &[Table],
@@ -147,60 +148,56 @@ fn each(
     tally: &mut Tally,
     runs: u32,
     kind: Kind,
-) -> anyhow::Result<()> {
+    out: &mut Answer,
+) {
     for run in 0..runs {
-        if let Err(error) = one(alloc, tables, draws, tally, link_of(run), kind) {
-            bail!("run {run}: {error}");
+        let mut wrong = Answer::new(alloc);
+        one(alloc, tables, draws, tally, link_of(run), kind, &mut wrong);
+        if wrong.is_faulty() {
+            out.labeled("run ", run);
+            out.text(": ");
+            return out.append(&wrong);
         }
     }
-    Ok(())
 }
 
 /// How many steps are drawn, and the tag, which is 0 where the text has none.
-fn kind_of(calls: u32, text: &str) -> anyhow::Result<Kind> {
+fn kind_of(calls: u32, text: &str, out: &mut Answer) -> Kind {
     let (steps, tag) = first_word(text);
-    let steps = steps.parse()?;
-    let tag = if tag.is_empty() { 0 } else { tag.parse()? };
-    Ok(Kind { tag, calls, steps })
+    Kind {
+        tag: if tag.is_empty() {
+            0
+        } else {
+            number_of(tag, out)
+        },
+        calls,
+        steps: number_of(steps, out),
+    }
 }
 
 /// Makes runs that are drawn, each after this number of calls, checks them, and writes how many steps and outputs there
 /// were.
-fn answer_with(
-    alloc: Global,
-    tables: &[Table],
-    calls: u32,
-    numbers: &str,
-    out: &mut String,
-) -> anyhow::Result<()> {
+fn answer_with(alloc: Global, tables: &[Table], calls: u32, numbers: &str, out: &mut Answer) {
     let (seed, rest) = first_word(numbers);
     let (runs, rest) = first_word(rest);
-    let mut draws = Draws::new(seed.parse()?);
-    let runs: u32 = runs.parse()?;
+    let mut draws = Draws::new(number_of(seed, out));
+    let runs: u32 = number_of(runs, out);
     let mut tally = Tally::new();
-    let kind = kind_of(calls, rest)?;
-    each(alloc, tables, &mut draws, &mut tally, runs, kind)?;
-    write!(out, "{runs} runs; ")?;
-    tally.push_to(out)
+    let kind = kind_of(calls, rest, out);
+    each(alloc, tables, &mut draws, &mut tally, runs, kind, out);
+    out.value(runs);
+    out.text(" runs; ");
+    tally.push_to(out);
 }
 
 /// Makes runs that are drawn, checks them, and writes how many steps and outputs there were.
-pub(crate) fn answer(
-    alloc: Global,
-    tables: &[Table],
-    numbers: &str,
-    out: &mut String,
-) -> anyhow::Result<()> {
+pub(crate) fn answer(alloc: Global, tables: &[Table], numbers: &str, out: &mut Answer) {
     answer_with(alloc, tables, 0, numbers, out)
 }
 
 /// So with calls before, whose number precedes the others.
-pub(crate) fn answer_after(
-    alloc: Global,
-    tables: &[Table],
-    numbers: &str,
-    out: &mut String,
-) -> anyhow::Result<()> {
+pub(crate) fn answer_after(alloc: Global, tables: &[Table], numbers: &str, out: &mut Answer) {
     let (calls, numbers) = first_word(numbers);
-    answer_with(alloc, tables, calls.parse()?, numbers, out)
+    let calls: u32 = number_of(calls, out);
+    answer_with(alloc, tables, calls, numbers, out);
 }

@@ -3,11 +3,9 @@
 use super::making::{Asked, Part};
 use crate::book::loops::push_posts;
 use crate::book::texts::{letter_of, push_given, push_posted, push_totals};
-use anyhow::bail;
-use cases::push_octets;
+use cases::Answer;
 use fp_book::{Posted, Totals};
 use fp_steps::Output;
-use std::fmt::Write;
 
 /// The word of an output that has no more to say.
 fn word_of(output: &Output) -> &'static str {
@@ -23,41 +21,53 @@ fn word_of(output: &Output) -> &'static str {
 }
 
 /// Writes what became of a message.
-fn push_message(out: &mut String, answer: Posted, components: u32) -> anyhow::Result<()> {
-    push_posted(out, answer)?;
-    write!(out, " {components}")?;
-    Ok(())
+fn push_message(out: &mut Answer, answer: Posted, components: u32) {
+    push_posted(out, answer);
+    out.labeled(" ", components);
 }
 
 /// Writes a parcel that is out.
-fn push_parcel(out: &mut String, local: u32, frame: &[u8]) -> anyhow::Result<()> {
-    write!(out, "picked {local:08X} ")?;
-    push_octets(out, frame)
+fn push_parcel(out: &mut Answer, local: u32, frame: &[u8]) {
+    out.text("picked ");
+    out.identifier(local);
+    out.text(" ");
+    out.octets(frame)
 }
 
 /// Writes what a step answers.
-pub(super) fn push_output(out: &mut String, output: &Output) -> anyhow::Result<()> {
+pub(super) fn push_output(out: &mut Answer, output: &Output) {
     match output {
-        Output::Posted { answer, components } => push_message(out, *answer, *components)?,
-        Output::Ticked { added, wanting } => write!(out, "ticked {added} {wanting}")?,
+        Output::Posted { answer, components } => push_message(out, *answer, *components),
+        Output::Ticked { added, wanting } => {
+            out.labeled("ticked ", *added);
+            out.labeled(" ", *wanting);
+        }
         Output::Took {
             local,
             position,
             count,
-        } => write!(out, "took {local:08X} {position} {count}")?,
+        } => {
+            out.text("took ");
+            out.identifier(*local);
+            out.labeled(" ", *position);
+            out.labeled(" ", *count);
+        }
         Output::Gave {
             local,
             position,
             served,
             given,
         } => {
-            write!(out, "gave {local:08X} {position} {served} ")?;
-            push_given(out, *given)?;
+            out.text("gave ");
+            out.identifier(*local);
+            out.labeled(" ", *position);
+            out.labeled(" ", *served);
+            out.text(" ");
+            push_given(out, *given);
         }
-        Output::Picked { local, frame } => push_parcel(out, *local, frame.as_slice())?,
-        _ => out.push_str(word_of(output))?,
+        Output::Picked { local, frame } => push_parcel(out, *local, frame.as_slice()),
+        _ => out.text(word_of(output)),
     }
-    Ok(())
 }
 
 /// The dialogue of the parcel that is out after this output, 0 for an Abort of the provider and for none.
@@ -99,49 +109,55 @@ pub(super) fn totals_of(outputs: &[Output]) -> Totals {
 }
 
 /// Writes these outputs.
-fn push_outputs(out: &mut String, outputs: &[Output]) -> anyhow::Result<()> {
+fn push_outputs(out: &mut Answer, outputs: &[Output]) {
     let mut is_first = true;
     for output in outputs {
         if !is_first {
-            out.push_str(", ")?;
+            out.text(", ");
         }
-        push_output(out, output)?;
+        push_output(out, output);
         is_first = false;
     }
-    Ok(())
 }
 
-/// What became of a message, from its output.
-fn posted_of(output: Option<&Output>) -> anyhow::Result<Posted> {
+/// What became of a message, from its output; `None` if it is another output.
+fn posted_of(output: &Output) -> Option<Posted> {
     match output {
-        Some(Output::Posted { answer, .. }) => Ok(*answer),
-        _ => bail!("no message"),
+        Output::Posted { answer, .. } => Some(*answer),
+        _ => None,
     }
+}
+
+/// Whether each of these outputs is what became of a message, with the letter of this one.
+fn have_letter(outputs: &[Output], first: Posted) -> bool {
+    for output in outputs {
+        match posted_of(output) {
+            Some(posted) if letter_of(posted) == letter_of(first) => {}
+            _ => return false,
+        }
+    }
+    true
 }
 
 /// Writes the answers of several messages: how many, the first and the last. All have the same letter.
-fn push_ends(out: &mut String, outputs: &[Output]) -> anyhow::Result<()> {
-    let first = posted_of(outputs.first())?;
-    for output in outputs {
-        if letter_of(posted_of(Some(output))?) != letter_of(first) {
-            bail!("answers of two kinds");
-        }
+fn push_ends(out: &mut Answer, outputs: &[Output]) {
+    let (Some(first), Some(last)) = (
+        outputs.first().and_then(posted_of),
+        outputs.last().and_then(posted_of),
+    ) else {
+        return out.fail("no message");
+    };
+    if !have_letter(outputs, first) {
+        return out.fail("answers of two kinds");
     }
-    let count = u32::try_from(outputs.len())?;
-    push_posts(out, count, first, posted_of(outputs.last())?)
+    push_posts(out, outputs.len(), first, last);
 }
 
 /// Writes what a part of a script answers, from the outputs before it and its own.
-fn push_part(
-    out: &mut String,
-    asked: Asked,
-    before: &[Output],
-    own: &[Output],
-) -> anyhow::Result<()> {
+fn push_part(out: &mut Answer, asked: Asked, before: &[Output], own: &[Output]) {
     match asked {
         Asked::Moment(milliseconds) => {
-            write!(out, "{milliseconds}")?;
-            Ok(())
+            out.value(milliseconds);
         }
         Asked::Totals => push_totals(out, totals_of(before)),
         Asked::Ends => push_ends(out, own),
@@ -153,25 +169,18 @@ fn push_part(
 }
 
 /// Writes what all parts of a script answer.
-pub(super) fn push_answers(
-    out: &mut String,
-    parts: &[Part],
-    outputs: &[Output],
-) -> anyhow::Result<()> {
+pub(super) fn push_answers(out: &mut Answer, parts: &[Part], outputs: &[Output]) {
     let mut place: usize = 0;
     for part in parts {
-        if !out.is_empty() {
-            out.push_str("; ")?;
-        }
+        out.separator("; ");
         let Part { asked, end } = *part;
         let (Some(before), Some(own)) = (outputs.get(..place), outputs.get(place..end)) else {
-            bail!("too few outputs");
+            return out.fail("too few outputs");
         };
-        push_part(out, asked, before, own)?;
+        push_part(out, asked, before, own);
         place = end;
     }
     if place != outputs.len() {
-        bail!("too many outputs");
+        return out.fail("too many outputs");
     }
-    Ok(())
 }

@@ -21,6 +21,7 @@ use super::making::serial_after;
 use super::octets::is_refusal;
 use super::seen::Seen;
 use super::templates::Known;
+use cases::Answer;
 use fp_book::{Given, Posted, Totals};
 use fp_steps::{Output, Step};
 use std::alloc::Global;
@@ -85,17 +86,33 @@ impl Watch {
         count
     }
 
+    /// The place of what was seen of a dialogue.
+    fn place_of(&self, local: u32) -> Option<usize> {
+        let mut place: usize = 0;
+        for seen in self.dialogues.as_slice() {
+            if seen.local == local {
+                return Some(place);
+            }
+            place = place.saturating_add(1);
+        }
+        None
+    }
+
     /// What was seen of a dialogue.
     fn seen(&mut self, local: u32) -> Option<&mut Seen> {
-        let index = self.dialogues.iter().position(|seen| seen.local == local)?;
-        self.dialogues.get_mut(index)
+        let place = self.place_of(local)?;
+        self.dialogues.get_mut(place)
     }
 
     /// Whether the turn of a dialogue is out.
     fn is_out(&self, local: u32) -> bool {
-        self.dialogues
-            .iter()
-            .any(|seen| seen.local == local && seen.is_out)
+        match self.place_of(local) {
+            Some(place) => match self.dialogues.get(place) {
+                Some(seen) => seen.is_out,
+                None => false,
+            },
+            None => false,
+        }
     }
 
     /// Whether an Abort of the provider waits.
@@ -110,25 +127,25 @@ impl Watch {
     }
 
     /// A dialogue was opened.
-    fn open(&mut self, known: Known, local: u32, components: u32) -> anyhow::Result<bool> {
-        let count = u32::try_from(self.dialogues.len())?;
+    fn open(&mut self, known: Known, local: u32, components: u32, out: &mut Answer) -> bool {
+        let count = u32::try_from(self.dialogues.len()).unwrap_or(u32::MAX);
         let serial = serial_after(1, self.calls.saturating_add(count));
         let is_next = local == self.base.saturating_add(serial);
-        let is_new = self.seen(local).is_none();
-        self.dialogues
-            .push(Seen::opened(local, known.peer, self.moment))?;
-        Ok(known.is_begin && is_next && is_new && self.accept(known, components))
+        let is_new = self.place_of(local).is_none();
+        let seen = Seen::opened(local, known.peer, self.moment);
+        out.push(&mut self.dialogues, seen);
+        known.is_begin && is_next && is_new && self.accept(known, components)
     }
 
     /// A message was refused.
-    fn refuse(&mut self, peer: u32, cause: u8) -> anyhow::Result<bool> {
-        self.refusals.push(Refusal { peer, cause })?;
-        Ok(!self.is_down && peer != 0)
+    fn refuse(&mut self, peer: u32, cause: u8, out: &mut Answer) -> bool {
+        out.push(&mut self.refusals, Refusal { peer, cause });
+        !self.is_down && peer != 0
     }
 
     /// Whether a message is aimed at a dialogue that was opened.
     fn is_aimed(&self, known: Known) -> bool {
-        !known.is_begin && self.dialogues.iter().any(|seen| seen.local == known.aim)
+        !known.is_begin && self.place_of(known.aim).is_some()
     }
 
     /// Entries were accepted.
@@ -141,26 +158,26 @@ impl Watch {
     }
 
     /// What became of a message.
-    fn post(&mut self, known: Known, answer: Posted, components: u32) -> anyhow::Result<bool> {
+    fn post(&mut self, known: Known, answer: Posted, components: u32, out: &mut Answer) -> bool {
         match answer {
-            Posted::Opened(local) => self.open(known, local, components),
-            Posted::Accepted(entries) => Ok(self.extend(known, entries, components)),
+            Posted::Opened(local) => self.open(known, local, components, out),
+            Posted::Accepted(entries) => self.extend(known, entries, components),
             Posted::Aborted(cause) => {
-                Ok(self.refuse(known.peer, cause.code())? && components == 0)
+                self.refuse(known.peer, cause.code(), out) && components == 0
             }
-            Posted::Ended => Ok(!self.is_down && self.is_aimed(known) && components == 0),
-            Posted::Discarded => Ok(components == 0),
+            Posted::Ended => !self.is_down && self.is_aimed(known) && components == 0,
+            Posted::Discarded => components == 0,
         }
     }
 
     /// What became of a message. One that was lost isn't accepted.
-    fn read(&mut self, known: Known, output: &Output, is_lost: bool) -> anyhow::Result<bool> {
+    fn read(&mut self, known: Known, output: &Output, is_lost: bool, out: &mut Answer) -> bool {
         let Output::Posted { answer, components } = output else {
-            return Ok(false);
+            return false;
         };
         match answer {
-            Posted::Opened(_) | Posted::Accepted(_) if is_lost => Ok(false),
-            _ => self.post(known, *answer, *components),
+            Posted::Opened(_) | Posted::Accepted(_) if is_lost => false,
+            _ => self.post(known, *answer, *components, out),
         }
     }
 
@@ -178,7 +195,7 @@ impl Watch {
         } else {
             self.dialogues.len()
         };
-        usize::try_from(*added).is_ok_and(|added| added <= most) && *wanting == 0
+        *added as usize <= most && *wanting == 0
     }
 
     /// A turn was taken.
@@ -230,7 +247,10 @@ impl Watch {
     /// What a put-back answers.
     fn put_back(&mut self, asked: u32, output: &Output) -> bool {
         match output {
-            Output::WentBack => self.seen(asked).is_some_and(|seen| seen.put_back()),
+            Output::WentBack => match self.seen(asked) {
+                Some(seen) => seen.put_back(),
+                None => false,
+            },
             Output::Nothing => !self.is_out(asked),
             _ => false,
         }
@@ -312,21 +332,22 @@ impl Watch {
         step: &Step,
         known: Known,
         output: &Output,
-    ) -> anyhow::Result<bool> {
+        out: &mut Answer,
+    ) -> bool {
         if let Step::Post { moment, .. } | Step::Lost(_, moment) | Step::Tick(moment) = step {
             self.moment = moment.milliseconds();
         }
         match step {
-            Step::Post { .. } => self.read(known, output, false),
-            Step::Lost(..) => self.read(known, output, true),
-            Step::Tick(_) => Ok(self.tick(output)),
-            Step::Take => Ok(self.take(output)),
-            Step::Give(local) => Ok(self.give(*local, output)),
-            Step::PutBack(local) => Ok(self.put_back(*local, output)),
-            Step::Pick => Ok(self.pick(output)),
-            Step::Sent => Ok(self.report(output, true)),
-            Step::Unsent => Ok(self.report(output, false)),
-            Step::Down => Ok(self.end(output)),
+            Step::Post { .. } => self.read(known, output, false, out),
+            Step::Lost(..) => self.read(known, output, true, out),
+            Step::Tick(_) => self.tick(output),
+            Step::Take => self.take(output),
+            Step::Give(local) => self.give(*local, output),
+            Step::PutBack(local) => self.put_back(*local, output),
+            Step::Pick => self.pick(output),
+            Step::Sent => self.report(output, true),
+            Step::Unsent => self.report(output, false),
+            Step::Down => self.end(output),
         }
     }
 }

@@ -10,11 +10,10 @@
 
 use super::{MANY, desk, failing_writer, push_loop, push_writer, whole, writer};
 use crate::devices::Pieces;
-use anyhow::{bail, ensure};
-use cases::first_word;
+use crate::memory::Desk;
+use cases::{Answer, first_word, number_of};
 use fp_linkio::{Counted, Ended, Gathered, Gathering, LinkWrite, send_loop};
-use std::alloc::Global;
-use std::fmt::Write;
+use std::alloc::{AllocError, Global};
 
 /// More octets than any case writes.
 const MOST_WRITTEN: usize = 100_000;
@@ -22,109 +21,126 @@ const MOST_WRITTEN: usize = 100_000;
 /// How many octets there are before the first one comes again.
 const OCTETS_OF_A_ROUND: u8 = 251;
 
-/// A writer that gathers before this device, from nothing on.
-fn gathering(alloc: Global, device: Counted<Pieces>) -> anyhow::Result<Gathering<Counted<Pieces>>> {
-    let gathered = Gathered::new(alloc)?;
-    Ok(Gathering { device, gathered })
+/// A writer that gathers before this device, from nothing on. `None` if memory runs out, which is a fault of the
+/// answer.
+fn gathering(
+    alloc: Global,
+    device: Counted<Pieces>,
+    out: &mut Answer,
+) -> Option<Gathering<Counted<Pieces>>> {
+    match Gathered::new(alloc) {
+        Ok(gathered) => Some(Gathering { device, gathered }),
+        Err(_) => {
+            out.run_out();
+            None
+        }
+    }
 }
 
-/// The writer that gathers before a device that fails, or takes none, at a write, or can't be flushed.
-fn failing_gathering(
-    alloc: Global,
-    most: usize,
-    failing: &str,
-) -> anyhow::Result<Gathering<Counted<Pieces>>> {
+/// A device that fails, or takes none, at a write, or can't be flushed.
+fn failing_device(alloc: Global, most: usize, failing: &str, out: &mut Answer) -> Counted<Pieces> {
     if failing != "flush" {
-        return gathering(alloc, failing_writer(alloc, most, failing)?);
+        return failing_writer(alloc, most, failing, out);
     }
     let mut device = writer(alloc, most, 0, false);
     device.device.flushes = false;
-    gathering(alloc, device)
+    device
 }
 
 /// Flushes a writer, and writes whether that handed on all.
-fn push_flush(writer: &mut Gathering<Counted<Pieces>>, out: &mut String) -> anyhow::Result<()> {
-    let word = if writer.flush().is_ok() {
-        "; flushed: "
-    } else {
-        "; not flushed: "
-    };
-    Ok(out.push_str(word)?)
+fn push_flush(writer: &mut Gathering<Counted<Pieces>>, out: &mut Answer) {
+    out.either(writer.flush().is_ok(), "; flushed: ", "; not flushed: ");
+}
+
+/// Writes a link, and a flush after that.
+fn push_send(
+    desk: &mut Desk,
+    turns: u64,
+    writer: &mut Gathering<Counted<Pieces>>,
+    out: &mut Answer,
+) {
+    push_loop(desk, turns, writer, out);
+    push_writer(out, &writer.device);
+    push_flush(writer, out);
+    push_writer(out, &writer.device);
 }
 
 /// What writing a link gives, and a flush after that.
-pub(super) fn send(alloc: Global, text: &str, out: &mut String) -> anyhow::Result<()> {
+pub(super) fn send(alloc: Global, text: &str, out: &mut Answer) {
     let (aborts, text) = first_word(text);
     let (turns, text) = first_word(text);
     let (most, failing) = first_word(text);
-    let turns: u64 = turns.parse()?;
-    let mut writer = failing_gathering(alloc, most.parse()?, failing)?;
-    let mut desk = desk(alloc, aborts.parse()?, false)?;
-    push_loop(&mut desk, turns, &mut writer, out)?;
-    push_writer(out, &writer.device)?;
-    push_flush(&mut writer, out)?;
-    push_writer(out, &writer.device)
+    let turns: u64 = number_of(turns, out);
+    let most: usize = number_of(most, out);
+    let aborts: u32 = number_of(aborts, out);
+    let device = failing_device(alloc, most, failing, out);
+    let Some(mut writer) = gathering(alloc, device, out) else {
+        return;
+    };
+    if let Some(mut desk) = desk(alloc, aborts, false, out) {
+        push_send(&mut desk, turns, &mut writer, out);
+    }
 }
 
-/// Flushes a writer whose device takes one octet a write, and fails after this number of writes; and once more. Returns
-/// whether the first flush handed on all. Fails unless the device has this number of octets then, and in the end all.
-fn is_flushed_at_once(
+/// Whether a writer hands on all by a second flush at the latest, if its device takes one octet a write and fails after
+/// this number of writes; and whether the first flush handed on all. The device must have this number of octets after
+/// the first flush.
+fn flush_twice(
     writer: &mut Gathering<Counted<Pieces>>,
     octets: &[u8],
     before: usize,
-) -> anyhow::Result<bool> {
+) -> (bool, bool) {
     let is_flushed = writer.flush().is_ok();
     let given = writer.device.device.octets.as_slice();
-    ensure!(
-        octets.starts_with(given) && given.len() == before,
-        "after {before}: other octets"
-    );
+    let is_front = octets.starts_with(given) && given.len() == before;
     let is_flushed_then = writer.flush().is_ok();
     let given = writer.device.device.octets.as_slice();
-    ensure!(
-        is_flushed_then && given == octets,
-        "after {before}: other octets in the end"
-    );
-    Ok(is_flushed)
+    (is_front && is_flushed_then && given == octets, is_flushed)
 }
 
 /// Writes a link whose device takes one octet a write, and fails after this number of writes. Returns whether the first
 /// flush then handed on all.
-fn is_flushed(alloc: Global, aborts: u32, octets: &[u8], before: usize) -> anyhow::Result<bool> {
-    let failing = u32::try_from(before)?.saturating_add(1);
-    let mut desk = desk(alloc, aborts, false)?;
-    let mut writer = gathering(alloc, writer(alloc, 1, failing, false))?;
+fn is_flushed(alloc: Global, aborts: u32, octets: &[u8], before: u32, out: &mut Answer) -> bool {
+    let device = writer(alloc, 1, before.saturating_add(1), false);
+    let Some(mut writer) = gathering(alloc, device, out) else {
+        return false;
+    };
+    let Some(mut desk) = desk(alloc, aborts, false, out) else {
+        return false;
+    };
     let ended = send_loop(&mut writer, MANY, &mut desk);
-    ensure!(
-        ended == Ended::EndOfInput && writer.device.device.made == 0,
-        "after {before}: {ended:?}"
-    );
-    is_flushed_at_once(&mut writer, octets, before)
+    let is_gathered = ended == Ended::EndOfInput && writer.device.device.made == 0;
+    let (is_right, is_flushed) = flush_twice(&mut writer, octets, before as usize);
+    if !is_gathered || !is_right {
+        out.labeled("wrong after ", before);
+        out.text(", ");
+    }
+    is_flushed
 }
 
 /// Writes how many flushes failed if each write fails in turn.
-fn push_faults(alloc: Global, aborts: u32, octets: &[u8], out: &mut String) -> anyhow::Result<()> {
+fn push_faults(alloc: Global, aborts: u32, octets: &[u8], out: &mut Answer) {
     let mut failed: u32 = 0;
-    let mut before: usize = 0;
+    let mut before: u32 = 0;
     for _ in 0..=octets.len() {
-        if !is_flushed(alloc, aborts, octets, before)? {
+        if !is_flushed(alloc, aborts, octets, before, out) {
             failed = failed.saturating_add(1);
         }
         before = before.saturating_add(1);
     }
-    Ok(write!(out, "{failed} failed")?)
+    out.value(failed);
+    out.text(" failed");
 }
 
 /// How many flushes failed if each write fails in turn.
-pub(super) fn faults(alloc: Global, text: &str, out: &mut String) -> anyhow::Result<()> {
-    let aborts: u32 = text.parse()?;
-    let octets = whole(alloc, aborts)?;
+pub(super) fn faults(alloc: Global, text: &str, out: &mut Answer) {
+    let aborts: u32 = number_of(text, out);
+    let octets = whole(alloc, aborts, out);
     push_faults(alloc, aborts, octets.as_slice(), out)
 }
 
-/// Octets in rounds of 251, so that one that is missing, or comes twice, shows.
-fn rounds(alloc: Global) -> anyhow::Result<Vec<u8>> {
-    let mut octets = Vec::new(alloc);
+/// Appends octets in rounds of 251, so that one that is missing, or comes twice, shows.
+fn push_rounds(octets: &mut Vec<u8>) -> Result<(), AllocError> {
     let mut next: u8 = 0;
     for _ in 0..MOST_WRITTEN {
         octets.push(next)?;
@@ -133,32 +149,28 @@ fn rounds(alloc: Global) -> anyhow::Result<Vec<u8>> {
             next = 0;
         }
     }
-    Ok(octets)
+    Ok(())
 }
 
 /// Makes one write of octets, and writes how many it took; returns that.
-fn push_write(
-    writer: &mut Gathering<Counted<Pieces>>,
-    octets: &[u8],
-    out: &mut String,
-) -> anyhow::Result<usize> {
+fn push_write(writer: &mut Gathering<Counted<Pieces>>, octets: &[u8], out: &mut Answer) -> usize {
     let Ok(count) = writer.write(octets) else {
-        out.push_str("fault")?;
-        return Ok(0);
+        out.text("fault");
+        return 0;
     };
-    write!(out, "{count} taken")?;
-    Ok(count)
+    out.value(count);
+    out.text(" taken");
+    count
 }
 
 /// Writes how many octets the device has. Fails unless they are the first of these.
-fn push_count(
-    writer: &Gathering<Counted<Pieces>>,
-    octets: &[u8],
-    out: &mut String,
-) -> anyhow::Result<()> {
+fn push_count(writer: &Gathering<Counted<Pieces>>, octets: &[u8], out: &mut Answer) {
     let given = writer.device.device.octets.as_slice();
-    ensure!(octets.starts_with(given), "other octets");
-    Ok(write!(out, "{} there", given.len())?)
+    if !octets.starts_with(given) {
+        out.text("other octets, ");
+    }
+    out.value(given.len());
+    out.text(" there");
 }
 
 /// Makes a write of as many octets as each of these numbers says, of those that weren't taken yet, and writes what came
@@ -167,23 +179,20 @@ fn push_writes(
     writer: &mut Gathering<Counted<Pieces>>,
     octets: &[u8],
     counts: &str,
-    out: &mut String,
-) -> anyhow::Result<()> {
+    out: &mut Answer,
+) {
     let mut taken: usize = 0;
     for count in counts.split(' ') {
-        let count: usize = count.parse()?;
+        let count: usize = number_of(count, out);
         let Some(piece) = octets.get(taken..taken.saturating_add(count)) else {
-            bail!("too many octets");
+            return out.fail("too many octets");
         };
-        if !out.is_empty() {
-            out.push_str("; ")?;
-        }
-        let more = push_write(writer, piece, out)?;
+        out.separator("; ");
+        let more = push_write(writer, piece, out);
         taken = taken.saturating_add(more);
-        out.push_str(", ")?;
-        push_count(writer, octets, out)?;
+        out.text(", ");
+        push_count(writer, octets, out);
     }
-    Ok(())
 }
 
 /// Makes writes of octets, and a flush, and writes what came of each.
@@ -191,20 +200,26 @@ fn push_all(
     writer: &mut Gathering<Counted<Pieces>>,
     octets: &[u8],
     counts: &str,
-    out: &mut String,
-) -> anyhow::Result<()> {
-    push_writes(writer, octets, counts, out)?;
-    push_flush(writer, out)?;
-    push_count(writer, octets, out)?;
+    out: &mut Answer,
+) {
+    push_writes(writer, octets, counts, out);
+    push_flush(writer, out);
+    push_count(writer, octets, out);
     let made = writer.device.device.made;
-    Ok(write!(out, " in {made} writes, {} failed", writer.device.failed)?)
+    out.labeled(" in ", made);
+    out.labeled(" writes, ", writer.device.failed);
+    out.text(" failed");
 }
 
 /// What came of writes of octets, and of a flush after them.
-pub(super) fn writes(alloc: Global, text: &str, out: &mut String) -> anyhow::Result<()> {
+pub(super) fn writes(alloc: Global, text: &str, out: &mut Answer) {
     let (most, text) = first_word(text);
     let (failing, counts) = first_word(text);
-    let mut writer = failing_gathering(alloc, most.parse()?, failing)?;
-    let octets = rounds(alloc)?;
-    push_all(&mut writer, octets.as_slice(), counts, out)
+    let most: usize = number_of(most, out);
+    let device = failing_device(alloc, most, failing, out);
+    let mut octets = Vec::new(alloc);
+    out.note(push_rounds(&mut octets));
+    if let Some(mut writer) = gathering(alloc, device, out) {
+        push_all(&mut writer, octets.as_slice(), counts, out);
+    }
 }

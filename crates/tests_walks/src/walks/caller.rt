@@ -12,7 +12,8 @@
 
 use super::held::Held;
 use super::posting::post_step;
-use super::words::{choose, first_word, number, say};
+use super::words::{choose, number, say};
+use cases::first_word;
 use fp_hub::{Hub, Seat};
 use std::rt::Clock;
 use std::sync::Wait;

@@ -10,7 +10,8 @@
 //! | | `drained` |
 //! | `log` | the log is drained: of each line the letter of the step, and the number of the dialogue that it names |
 
-use super::words::{add_number, choose, first_word, number, say};
+use super::words::{add_number, choose, number, say};
+use cases::first_word;
 use fp_book::{Line, Log, LoggedStep};
 use fp_hub::Hub;
 use std::alloc::Global;

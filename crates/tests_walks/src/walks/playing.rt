@@ -5,10 +5,10 @@ use super::foreign::call_or_bring;
 use super::held::Held;
 use super::sleeping::act_while;
 use super::turns::work;
-use super::words::first_word;
+use cases::{Cursor, Line, first_word};
 use fp_hub::{Hub, Seat};
 use fp_records::Table;
-use std::alloc::Global;
+use std::alloc::{AllocError, Global};
 use std::fmt::Write;
 use std::rt::Clock;
 use std::sync::Wait;
@@ -16,22 +16,46 @@ use std::sync::ledger::Ledger;
 use std::thread::Threads;
 
 /// A line without its mark. `None`: it isn't played.
-fn played(line: &str, are_foreign_brought: bool) -> Option<&str> {
-    let (mark, rest) = first_word(line);
+fn played(line: Line<'_>, are_foreign_brought: bool) -> Option<Line<'_>> {
+    let (mark, rest) = first_word(line.text);
+    let unmarked = Line {
+        number: line.number,
+        text: rest,
+    };
     match mark {
-        "+" => are_foreign_brought.then_some(rest),
-        "-" => (!are_foreign_brought).then_some(rest),
+        "+" => are_foreign_brought.then_some(unmarked),
+        "-" => (!are_foreign_brought).then_some(unmarked),
         "#" => None,
         _ => Some(line),
     }
 }
 
-/// The call of a line that is played, and the words that it must answer.
-fn parts_of(played: &str) -> (&str, &str) {
-    match played.split_once(" => ") {
-        Some(parts) => parts,
-        None => (played, ""),
+/// Writes a line of a script beside the one that failed, if there is one.
+fn push_neighbour(walk: Walk, index: usize, fault: &mut String) -> Result<(), AllocError> {
+    match walk.script.lines().nth(index) {
+        Some(line) => write!(fault, "\n  {line}"),
+        None => Ok(()),
     }
+}
+
+/// Writes the place of a line that failed, its call, the words that this answered, and the wanted words; and the lines
+/// beside it.
+fn push_fault(
+    walk: Walk,
+    line: Line<'_>,
+    call: &str,
+    given: &str,
+    wanted: &str,
+    fault: &mut String,
+) -> Result<(), AllocError> {
+    fault.clear();
+    line.push_place(walk.name, fault)?;
+    write!(fault, "{call}: {given}, wanted {wanted}")?;
+    let next = line.number as usize;
+    if next > 1 {
+        push_neighbour(walk, next - 2, fault)?;
+    }
+    push_neighbour(walk, next, fault)
 }
 
 /// Makes the call of a line, or lets another thread sleep meanwhile.
@@ -59,8 +83,8 @@ fn make_line<
     seat
 }
 
-/// Plays the lines of a walk. The first one that answers other words ends it, and is put after the text about a
-/// failure; if all answer their words, this text is cleared.
+/// Plays the lines of a walk. The first one that answers other words ends it, and the text about a failure then says
+/// which; if all answer their words, this text is cleared.
 fn play_lines<
     'x,
     R: Threads + Wait + Clock + Sync,
@@ -76,18 +100,17 @@ fn play_lines<
     fault: &mut String,
 ) -> Seat<A, B, C> {
     let mut seat = seat;
-    let mut number: u32 = 0;
+    let mut cursor = Cursor::new();
     for line in walk.script.lines() {
-        number = number.saturating_add(1);
-        let Some(text) = played(line, walk.are_foreign_brought) else {
+        let Some(line) = played(cursor.line(line), walk.are_foreign_brought) else {
             continue;
         };
-        let (call, wanted) = parts_of(text);
+        let (call, wanted) = line.parts().unwrap_or((line.text, ""));
         held.words.clear();
         seat = make_line(rt, hub, seat, held, call);
         let given = held.words.as_str();
         if given != wanted {
-            let _ = write!(fault, ", line {number}, {line}: it answered {given}");
+            let _ = push_fault(walk, line, call, given, wanted, fault);
             return seat;
         }
     }

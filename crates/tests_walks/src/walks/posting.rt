@@ -12,7 +12,8 @@
 
 use super::held::Held;
 use super::turns::turn_step;
-use super::words::{choose, first_word, number_word, say};
+use super::words::{choose, number_word, say};
+use cases::first_word;
 use fp_book::Posted;
 use fp_entry::Prepared;
 use fp_frames::Frame;

@@ -21,7 +21,8 @@
 
 use super::held::{Held, MOST_TURNS};
 use super::parcels::parcel_step;
-use super::words::{choose, first_word, number, number_word, say};
+use super::words::{choose, number, number_word, say};
+use cases::first_word;
 use fp_hub::{Hub, OpenGate, Seat, Stopped, Work, Worked};
 use std::collections::VecDeque;
 use std::rt::Clock;

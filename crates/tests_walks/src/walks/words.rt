@@ -20,14 +20,6 @@ pub(super) fn choose(is_first: bool, first: &'static str, second: &'static str) 
     if is_first { first } else { second }
 }
 
-/// The first word of a text, and the rest after a blank.
-pub(super) fn first_word(text: &str) -> (&str, &str) {
-    match text.split_once(' ') {
-        Some(parts) => parts,
-        None => (text, ""),
-    }
-}
-
 /// The number of a text, 0 if it has none.
 pub(super) fn number(text: &str) -> usize {
     text.parse().unwrap_or(0)
