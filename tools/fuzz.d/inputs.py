@@ -6,6 +6,7 @@ import pathlib
 import re
 
 import model
+import named
 from model import ABORT, BEGIN, CONTINUE, END, tlv
 
 ROOT = pathlib.Path(__file__).resolve().parent.parent.parent
@@ -113,7 +114,7 @@ def change_octets(chance, octets, other):
 def seeds():
     """The messages of the cases and examples, good ones and bad ones."""
     paths = "crates/cases_program/stdin", "crates/cases_links/stdin", "examples/calls.txt"
-    text = " ".join((ROOT / path).read_text() for path in paths)
+    text = " ".join(" ".join(named.expanded((ROOT / path).read_text())) for path in paths)
     return sorted(set(map(bytes.fromhex, re.findall(r"\b6[0-9A-F](?:[0-9A-F]{2}){1,4095}\b", text))))
 
 
