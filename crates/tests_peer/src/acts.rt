@@ -8,6 +8,7 @@ use crate::logs::{Trouble, fill_and_mend};
 use crate::streams::Streams;
 use crate::talk::{ANSWER_WITH_CONTEXT, BEGIN_WITH_CONTEXT, all_kinds};
 use crate::turns::{Door, call_and_quit, fill_dialogue, two_calls};
+use crate::unmet::Unmet;
 use std::alloc::Global;
 use std::net::{Net, TcpListener, TcpStream};
 use std::rt::Clock;
@@ -77,8 +78,8 @@ impl Act<'_> {
         }
     }
 
-    /// Does it. `None`: something else came than has to.
-    pub fn play<R>(self, rt: &R, alloc: Global, streams: &Streams) -> Option<Played>
+    /// Does it. It is an error if something else comes than has to.
+    pub fn play<R>(self, rt: &R, alloc: Global, streams: &Streams) -> Result<Played, Unmet>
     where
         R: Net<Listener = TcpListener, Stream = TcpStream>
             + Threads
@@ -95,29 +96,35 @@ impl Act<'_> {
             Act::ManyCalls => self.play_beside(rt, alloc, streams, 2)?,
             _ => self.play_alone(rt, alloc, streams)?,
         };
-        let end = Instant::now(rt).ok()?;
-        Some(Played { seconds, end })
+        let end = Instant::now(rt)?;
+        Ok(Played { seconds, end })
     }
 
     /// This number of clients do it at once, and give no seconds.
-    fn play_beside<R>(self, rt: &R, alloc: Global, streams: &Streams, count: usize) -> Option<u64>
+    fn play_beside<R>(
+        self,
+        rt: &R,
+        alloc: Global,
+        streams: &Streams,
+        count: usize,
+    ) -> Result<u64, Unmet>
     where
         R: Net<Listener = TcpListener, Stream = TcpStream>,
         R: Threads + Wait + Clock + Copy + Send + Sync + 'static,
     {
         let address = streams.address(rt)?;
         let is_many = matches!(self, Act::ManyCalls);
-        let mut found = thread::map_indices(
+        let results = thread::map_indices(
             rt,
             alloc,
             count,
-            &|_number| if is_many {
-                make_all_calls(rt, alloc, address)
+            &|number| if is_many {
+                make_all_calls(rt, alloc, address, number)
             } else {
-                all_kinds(rt, alloc, address)
+                all_kinds(rt, alloc, address, number)
             },
-        )
-        .ok()?;
+        )?;
+        let mut found = found_in(alloc, results)?;
         if is_many {
             return are_soon(found.as_slice());
         }
@@ -126,7 +133,7 @@ impl Act<'_> {
     }
 
     /// Does it in this thread alone, and gives no seconds.
-    fn play_alone<R>(self, rt: &R, alloc: Global, streams: &Streams) -> Option<u64>
+    fn play_alone<R>(self, rt: &R, alloc: Global, streams: &Streams) -> Result<u64, Unmet>
     where
         R: Net<Stream = TcpStream> + Wait + Clock,
     {
@@ -143,39 +150,50 @@ impl Act<'_> {
             Act::FillDialogue => fill_dialogue(rt, alloc, streams)?,
             Act::Quit(door) => call_and_quit(rt, alloc, streams, door)?,
             Act::NoListener => {}
-            Act::End(_) | Act::AllKinds | Act::ManyCalls => return None,
+            Act::End(_) | Act::AllKinds | Act::ManyCalls => {
+                return Err(Unmet::Failed("an act of several clients"));
+            }
         }
-        Some(0)
+        Ok(0)
     }
 }
 
-/// Makes one call. `None`: it gets another answer.
+/// Makes one call.
 fn one_call<R: Net<Stream = TcpStream> + Wait + Clock>(
     rt: &R,
     alloc: Global,
     streams: &Streams,
-) -> Option<()> {
-    let mut client = Client::connect(rt, streams.address(rt)?)?;
+) -> Result<(), Unmet> {
+    let mut client = Client::connect(rt, streams.address(rt)?, 0)?;
     client.write_text(alloc, BEGIN_WITH_CONTEXT)?;
     client.expect(alloc, ANSWER_WITH_CONTEXT)
 }
 
-/// `None`: one of these calls wasn't answered, or each waited for a tick.
-fn are_soon(seconds: &[Option<u64>]) -> Option<u64> {
-    for taken in seconds {
-        if (*taken)? >= MOST_SECONDS {
-            return None;
-        }
+/// What all clients found, or the first error.
+fn found_in(alloc: Global, results: Vec<Result<u64, Unmet>>) -> Result<Vec<u64>, Unmet> {
+    let mut found = Vec::new(alloc);
+    for result in results {
+        found.push(result?)?;
     }
-    Some(0)
+    Ok(found)
 }
 
-/// `None`: these clients weren't answered on a link of their own each.
-fn are_links(found: &[Option<u64>]) -> Option<u64> {
-    for (link, found) in (0u64..).zip(found) {
-        if *found != Some(link) {
-            return None;
+/// It is an error if the calls waited for a tick each.
+fn are_soon(seconds: &[u64]) -> Result<u64, Unmet> {
+    for taken in seconds {
+        if *taken >= MOST_SECONDS {
+            return Err(Unmet::Failed("40 calls took 20 seconds or more"));
         }
     }
-    Some(0)
+    Ok(0)
+}
+
+/// It is an error if the clients weren't answered on a link of their own each.
+fn are_links(found: &[u64]) -> Result<u64, Unmet> {
+    for (link, found) in (0u64..).zip(found) {
+        if *found != link {
+            return Err(Unmet::Failed("two clients were answered on one link"));
+        }
+    }
+    Ok(0)
 }

@@ -1,5 +1,6 @@
 //! Clients of a server.
 
+use crate::unmet::Unmet;
 use libc::net::{
     IPPROTO_TCP, SHUT_RDWR, SO_SNDBUF, SOL_SOCKET, TCP_USER_TIMEOUT, getsockopt, setsockopt,
     shutdown,
@@ -102,71 +103,88 @@ pub fn is_refused<R: Net<Stream = TcpStream> + Wait + Clock>(rt: &R, address: So
 #[derive(Drop)]
 pub struct Client {
     stream: TcpStream,
+    // For a test that fails: which of the clients it is.
+    number: usize,
 }
 
 impl Client {
-    /// Connects to this address.
-    pub fn connect<R: Net<Stream = TcpStream>>(rt: &R, address: SocketAddr) -> Option<Client> {
-        let stream = TcpStream::connect(rt, address).ok()?;
+    /// Connects to this address. The client has this number.
+    pub fn connect<R: Net<Stream = TcpStream>>(
+        rt: &R,
+        address: SocketAddr,
+        number: usize,
+    ) -> Result<Client, Unmet> {
+        let stream = TcpStream::connect(rt, address)?;
         let most = Some(Duration::from_secs(MOST_SECONDS));
-        stream.set_read_timeout(most).ok()?;
-        Some(Client { stream })
+        stream.set_read_timeout(most)?;
+        Ok(Client { stream, number })
+    }
+
+    /// The number of the client.
+    pub fn number(&self) -> usize {
+        self.number
     }
 
     /// Writes octets.
-    pub fn write(&mut self, octets: &[u8]) -> Option<()> {
-        self.stream.write_all(octets).ok()
+    pub fn write(&mut self, octets: &[u8]) -> Result<(), Unmet> {
+        self.stream.write_all(octets)?;
+        Ok(())
     }
 
     /// Writes the octets of a hexadecimal text.
-    pub fn write_text(&mut self, alloc: Global, text: &str) -> Option<()> {
-        let octets = hex::decode(alloc, text).ok()?;
+    pub fn write_text(&mut self, alloc: Global, text: &str) -> Result<(), Unmet> {
+        let octets = hex::decode(alloc, text)
+            .ok()
+            .ok_or("no octets in hexadecimal")?;
         self.write(octets.as_slice())
     }
 
     /// Closes its sending side.
-    pub fn end_input(&self) -> Option<()> {
-        self.stream.shutdown(Shutdown::Write).ok()
+    pub fn end_input(&self) -> Result<(), Unmet> {
+        self.stream.shutdown(Shutdown::Write)?;
+        Ok(())
     }
 
     /// Reads this number of octets, and gives their hexadecimal text, in upper case.
-    fn read_text(&mut self, alloc: Global, count: usize) -> Option<String> {
+    fn read_text(&mut self, alloc: Global, count: usize) -> Result<String, Unmet> {
         let mut octets = Vec::new(alloc);
-        octets.resize(count, 0).ok()?;
-        self.stream.read_exact(octets.as_mut_slice()).ok()?;
-        hex::encode_upper(alloc, octets.as_slice()).ok()
+        octets.resize(count, 0)?;
+        self.stream.read_exact(octets.as_mut_slice())?;
+        Ok(hex::encode_upper(alloc, octets.as_slice())?)
     }
 
     /// Reads the next frame, and gives the hexadecimal text of its message.
-    pub fn message(&mut self, alloc: Global) -> Option<String> {
+    pub fn message(&mut self, alloc: Global) -> Result<String, Unmet> {
         let head = self.read_text(alloc, 4)?;
-        let count = u32::from_str_radix(head.as_str(), 16).ok()?;
-        self.read_text(alloc, usize::try_from(count).ok()?)
+        let count = u32::from_str_radix(head.as_str(), 16)
+            .ok()
+            .ok_or("no length of a frame")?;
+        self.read_text(alloc, usize::try_from(count).ok().ok_or("a long frame")?)
     }
 
-    /// Reads the next frame. `None`: none comes, or one with another message.
-    pub fn expect(&mut self, alloc: Global, wanted: &str) -> Option<()> {
-        if self.message(alloc)?.as_str() == wanted {
-            Some(())
-        } else {
-            None
+    /// Reads the next frame, which must have this message.
+    pub fn expect(&mut self, alloc: Global, wanted: &str) -> Result<(), Unmet> {
+        match self.message(alloc) {
+            Ok(came) => Unmet::unless_same(alloc, self.number, wanted, came.as_str()),
+            Err(_unmet) => Err(Unmet::differs(alloc, self.number, wanted, "no frame")),
         }
     }
 
-    /// Reads this number of frames. `None`: fewer come, or one with another message.
-    pub fn messages(&mut self, alloc: Global, count: u32, wanted: &str) -> Option<()> {
+    /// Reads this number of frames, which must each have this message.
+    pub fn messages(&mut self, alloc: Global, count: u32, wanted: &str) -> Result<(), Unmet> {
         for _ in 0..count {
             self.expect(alloc, wanted)?;
         }
-        Some(())
+        Ok(())
     }
 
-    /// Reads on, and returns whether the server ended the connection before anything more came.
-    pub fn is_at_end(&mut self) -> bool {
+    /// Reads on. The server must end the connection before anything more comes.
+    pub fn expect_end(&mut self, alloc: Global) -> Result<(), Unmet> {
         let mut octet = [0u8; 1];
         match self.stream.read(&mut octet) {
-            Ok(count) => count == 0,
-            Err(_) => false,
+            Ok(0) => Ok(()),
+            Ok(_) => Err(Unmet::differs(alloc, self.number, "the end", "more octets")),
+            Err(_) => Err(Unmet::differs(alloc, self.number, "the end", "no end in time")),
         }
     }
 }

@@ -4,6 +4,7 @@ use crate::client::{Client, is_refused};
 use crate::device::Mood;
 use crate::streams::Streams;
 use crate::talk::{LATE_ERROR, LATE_ERROR_REFUSED, begin, calls, long_begin};
+use crate::unmet::Unmet;
 use std::alloc::Global;
 use std::net::{Net, TcpStream};
 use std::rt::Clock;
@@ -12,24 +13,22 @@ use std::thread;
 use std::time::Duration;
 
 /// Breaks off inside a frame, sends a length of 0, which ends that link, and then makes a call on a third one, whose
-/// error comes eleven seconds late. In the end the device of the log takes octets again. `None`: that link didn't end,
-/// or the error isn't refused.
+/// error comes eleven seconds late. In the end the device of the log takes octets again. It is an error if that link didn't
+/// end, or if the error isn't refused.
 pub(crate) fn break_off<R: Net<Stream = TcpStream> + Wait + Clock>(
     rt: &R,
     alloc: Global,
     streams: &Streams,
-) -> Option<()> {
+) -> Result<(), Unmet> {
     let address = streams.address(rt)?;
-    let mut first = Client::connect(rt, address)?;
-    let mut second = Client::connect(rt, address)?;
-    let mut third = Client::connect(rt, address)?;
+    let mut first = Client::connect(rt, address, 0)?;
+    let mut second = Client::connect(rt, address, 1)?;
+    let mut third = Client::connect(rt, address, 2)?;
     first.write_text(alloc, "0000002F622D4804")?;
     drop(first);
     second.write_text(alloc, "00000000")?;
-    if !second.is_at_end() {
-        return None;
-    }
-    third.write_text(alloc, long_begin(alloc).ok()?.as_str())?;
+    second.expect_end(alloc)?;
+    third.write_text(alloc, long_begin(alloc)?.as_str())?;
     third.message(alloc)?;
     thread::sleep(rt, Duration::from_secs(11));
     third.write_text(alloc, LATE_ERROR)?;
@@ -42,40 +41,42 @@ pub(crate) fn break_off<R: Net<Stream = TcpStream> + Wait + Clock>(
 pub const TAKEN: usize = 100;
 
 /// Makes one call, and connects once more when the log has failed. Waits until the server ends the first connection.
-/// `None`: it doesn't, or it doesn't refuse others within a second.
+/// It is an error if it doesn't, or
+/// if it doesn't refuse others within a second.
 pub(crate) fn wait_for_end<R: Net<Stream = TcpStream> + Wait + Clock>(
     rt: &R,
     alloc: Global,
     streams: &Streams,
-) -> Option<()> {
+) -> Result<(), Unmet> {
     let address = streams.address(rt)?;
-    let mut client = Client::connect(rt, address)?;
-    client.write_text(alloc, begin(alloc, 0x2A).ok()?.as_str())?;
+    let mut client = Client::connect(rt, address, 0)?;
+    client.write_text(alloc, begin(alloc, 0x2A)?.as_str())?;
     client.message(alloc)?;
     streams.await_octets(rt, TAKEN)?;
     // Now the write that fails returns, too.
     thread::sleep(rt, Duration::from_millis(20));
-    let late = Client::connect(rt, address);
-    let is_at_end = client.is_at_end();
+    let late = Client::connect(rt, address, 1);
+    client.expect_end(alloc)?;
     let is_refused = is_refused(rt, address);
     drop(late);
-    if is_at_end && is_refused {
-        Some(())
+    if is_refused {
+        Ok(())
     } else {
-        None
+        Err(Unmet::Failed("later connections aren't refused"))
     }
 }
 
-/// Connects, waits until further connections are refused, and then makes a call. `None`: it isn't answered.
+/// Connects, waits until further connections are refused, and then makes a call. It is an error if it isn't
+/// answered.
 pub(crate) fn call_beside_refused<R: Net<Stream = TcpStream> + Wait + Clock>(
     rt: &R,
     alloc: Global,
     streams: &Streams,
-) -> Option<()> {
+) -> Result<(), Unmet> {
     let address = streams.address(rt)?;
-    let mut client = Client::connect(rt, address)?;
+    let mut client = Client::connect(rt, address, 0)?;
     if !is_refused(rt, address) {
-        return None;
+        return Err(Unmet::Failed("further connections aren't refused"));
     }
     calls(alloc, &mut client, 0x2A)
 }

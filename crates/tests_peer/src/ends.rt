@@ -5,6 +5,7 @@ use crate::crowd::{make_calls, read_answers, read_answers_and_call, write_begins
 use crate::device::Mood;
 use crate::streams::Streams;
 use crate::talk::{REJECT, UNKNOWN, continues, long_begin};
+use crate::unmet::Unmet;
 use std::alloc::Global;
 use std::net::{Net, TcpStream};
 use std::rt::Clock;
@@ -203,7 +204,7 @@ fn bring_about<R: Wait + Clock>(
     ending: Ending,
     client: &mut Client,
     other: &mut Client,
-) -> Option<()> {
+) -> Result<(), Unmet> {
     match ending.cause {
         Cause::EndOfInput => {
             client.end_input()?;
@@ -221,16 +222,16 @@ fn bring_about<R: Wait + Clock>(
             shorten_limits();
             client.end_input()
         }
-        Cause::ClientGone => Some(()),
+        Cause::ClientGone => Ok(()),
         Cause::LogFault => {
             streams.set_mood(rt, Mood::Fails(0));
             // So that there is a line to be written.
             other.write_text(alloc, UNKNOWN)
         }
         Cause::Entries => {
-            client.write_text(alloc, long_begin(alloc).ok()?.as_str())?;
+            client.write_text(alloc, long_begin(alloc)?.as_str())?;
             client.message(alloc)?;
-            client.write_text(alloc, continues(alloc, REJECT, 63).ok()?.as_str())
+            client.write_text(alloc, continues(alloc, REJECT, 63)?.as_str())
         }
         Cause::Quit => streams.command(rt, "quit\n"),
     }
@@ -243,38 +244,38 @@ fn make_calls_before<R: Net<Stream = TcpStream> + Wait + Clock>(
     streams: &Streams,
     ending: Ending,
     client: &mut Client,
-) -> Option<Client> {
+) -> Result<Client, Unmet> {
     write_begins(alloc, client, 0, ending.calls)?;
-    streams.await_log(rt, ending.log)?;
-    let mut other = Client::connect(rt, streams.address(rt)?)?;
+    streams.await_log(rt, alloc, ending.log)?;
+    let mut other = Client::connect(rt, streams.address(rt)?, 1)?;
     make_calls(alloc, &mut other, 0x2A, 1)?;
     if ending.cause == Cause::Quit {
         // What comes later would be read no more.
         streams.await_still_log(rt)?;
     }
-    Some(other)
+    Ok(other)
 }
 
 /// Ends link 0 in this way, after another client made a call on link 1, and waits until that is reported. Gives how
-/// many seconds after the cause it was. `None`: something else came than has to.
+/// many seconds after the cause it was. It is an error if something else came than has to.
 pub(crate) fn end_link<R: Net<Stream = TcpStream> + Wait + Clock>(
     rt: &R,
     alloc: Global,
     streams: &Streams,
     ending: Ending,
-) -> Option<u64> {
-    let mut client = Client::connect(rt, streams.address(rt)?)?;
+) -> Result<u64, Unmet> {
+    let mut client = Client::connect(rt, streams.address(rt)?, 0)?;
     let mut other = make_calls_before(rt, alloc, streams, ending, &mut client)?;
-    let start = Instant::now(rt).ok()?;
+    let start = Instant::now(rt)?;
     bring_about(rt, alloc, streams, ending, &mut client, &mut other)?;
     if ending.cause == Cause::ClientGone {
         drop(client);
-        streams.await_errors(rt, " link 0 down ")?;
+        streams.await_errors(rt, alloc, " link 0 down ")?;
     } else {
-        streams.await_errors(rt, " link 0 down ")?;
+        streams.await_errors(rt, alloc, " link 0 down ")?;
         drop(client);
     }
-    Some(start.elapsed(rt).ok()?.as_secs())
+    Ok(start.elapsed(rt)?.as_secs())
 }
 
 /// The counts of link 0, as a run reports them.
@@ -303,15 +304,22 @@ impl Ending {
     /// links and these events.
     pub fn want(&self, seconds: u64, told: &str, events: &str) -> Result<(), Fail> {
         if !events.contains(self.event) && !events.contains(self.other_event) {
-            return Err(Fail::new(events));
+            let (wanted, other) = (self.event, self.other_event);
+            return Err(Fail::new(format_args!("wanted{wanted}or{other}came {events}")));
         }
         if seconds >= MOST_SECONDS || seconds < self.least_seconds && !is_all_sent(told) {
-            return Err(Fail::new(format_args!("{seconds} seconds, {told}")));
+            let least = self.least_seconds;
+            return Err(Fail::new(format_args!(
+                "wanted {least} to {MOST_SECONDS} seconds, came {seconds}, and {told}"
+            )));
         }
         if !told.starts_with(self.told)
             || !told.ends_with("\nlink 1 accepted 1 served 2 sent 1\n")
         {
-            return Err(Fail::new(told));
+            let wanted = self.told;
+            return Err(Fail::new(format_args!(
+                "wanted {wanted} and one call of link 1, came {told}"
+            )));
         }
         Ok(())
     }
@@ -325,17 +333,17 @@ const CALLS: u32 = 8_000;
 const SENT_8000: &str = "\n0 Y 8000\n";
 
 /// Makes calls, ends the run once all answers are on their way, and reads these only once the link is down, while it
-/// goes on making calls. `None`: an answer is missing, or another one came.
+/// goes on making calls. It is an error if an answer is missing, or another one came.
 pub(crate) fn call_on_at_the_end<R: Net<Stream = TcpStream> + Wait + Clock>(
     rt: &R,
     alloc: Global,
     streams: &Streams,
-) -> Option<()> {
-    let mut client = Client::connect(rt, streams.address(rt)?)?;
+) -> Result<(), Unmet> {
+    let mut client = Client::connect(rt, streams.address(rt)?, 0)?;
     write_begins(alloc, &mut client, 0, CALLS)?;
-    streams.await_log(rt, SENT_8000)?;
+    streams.await_log(rt, alloc, SENT_8000)?;
     streams.command(rt, "quit\n")?;
-    streams.await_errors(rt, " link 0 down quit\n")?;
+    streams.await_errors(rt, alloc, " link 0 down quit\n")?;
     read_answers_and_call(alloc, &mut client, 0, CALLS)?;
-    if client.is_at_end() { Some(()) } else { None }
+    client.expect_end(alloc)
 }

@@ -8,7 +8,8 @@
 //! * [`acts`]: what clients do while a run goes on. [`connections`] has those that break off, come late or are refused,
 //!   [`ends`] what ends a link, [`logs`] calls beside a log whose device is in trouble, and [`turns`] calls whose turns
 //!   are held.
-//! * [`client`]: connections. [`talk`]: messages and their answers. [`crowd`]: clients with many calls.
+//! * [`client`]: connections. [`talk`]: messages and their answers. [`crowd`]: clients with many calls. [`unmet`]: what
+//!   a client wanted, and what came.
 #![tactic(auto)]
 
 pub mod acts;
@@ -23,3 +24,4 @@ pub mod streams;
 pub mod talk;
 pub mod turns;
 pub mod typed;
+pub mod unmet;

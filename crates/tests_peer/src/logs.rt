@@ -4,6 +4,7 @@ use crate::client::Client;
 use crate::device::Mood;
 use crate::streams::Streams;
 use crate::talk::calls;
+use crate::unmet::Unmet;
 use std::alloc::Global;
 use std::net::{Net, TcpStream};
 use std::rt::Clock;
@@ -46,50 +47,51 @@ const MANY_FRAMES: usize = 33_000;
 const FRAMES_AT_ONCE: usize = 100;
 
 /// Makes a call on each of two links, fills the places for lines of the first one, makes another call on each, mends
-/// the device, and makes a third one once the log is written again. `None`: one wasn't answered, or the log wasn't
-/// written.
+/// the device, and makes a third one once the log is written again. It is an error if one wasn't answered, or if
+/// the log wasn't written.
 pub(crate) fn fill_and_mend<R: Net<Stream = TcpStream> + Wait + Clock>(
     rt: &R,
     alloc: Global,
     streams: &Streams,
     trouble: Trouble,
-) -> Option<()> {
+) -> Result<(), Unmet> {
     let address = streams.address(rt)?;
-    let mut first = Client::connect(rt, address)?;
-    let mut second = Client::connect(rt, address)?;
+    let mut first = Client::connect(rt, address, 0)?;
+    let mut second = Client::connect(rt, address, 1)?;
     call_on_each(alloc, &mut first, &mut second, 0)?;
-    streams.await_errors(rt, trouble.first_event)?;
+    streams.await_errors(rt, alloc, trouble.first_event)?;
     write_many(alloc, &mut first)?;
     // Its answer shows that all of them came; its lines find no place.
     call_on_each(alloc, &mut first, &mut second, 1)?;
     streams.set_mood(rt, Mood::Takes(0));
     // What waited was written, so that the run doesn't give up on it.
-    streams.await_log(rt, "\n0 Z ")?;
+    streams.await_log(rt, alloc, "\n0 Z ")?;
     call_on_each(alloc, &mut first, &mut second, 2)
 }
 
-/// Makes a call from this identifier on each of two links. `None`: one wasn't answered.
+/// Makes a call from this identifier on each of two links. It is an error if one wasn't
+/// answered.
 fn call_on_each(
     alloc: Global,
     first: &mut Client,
     second: &mut Client,
     identifier: u32,
-) -> Option<()> {
+) -> Result<(), Unmet> {
     calls(alloc, first, identifier)?;
     calls(alloc, second, identifier)
 }
 
 /// Writes many frames that nobody can read.
-fn write_many(alloc: Global, client: &mut Client) -> Option<()> {
+fn write_many(alloc: Global, client: &mut Client) -> Result<(), Unmet> {
     let mut frames = Vec::new(alloc);
     for _ in 0..FRAMES_AT_ONCE {
-        frames.extend_from_slice(&[0, 0, 1, 244]).ok()?;
-        frames.resize(frames.len() + 500, 0).ok()?;
+        frames.extend_from_slice(&[0, 0, 1, 244])?;
+        frames.resize(frames.len() + 500, 0)?;
     }
     for _ in 0..MANY_FRAMES / FRAMES_AT_ONCE {
         client.write(frames.as_slice())?;
     }
-    Some(())
+    Ok(())
 }
 
 /// How many lines of a log begin so.
@@ -116,7 +118,9 @@ pub fn gap_in(log: &str) -> Result<(u128, usize), Fail> {
         || after.contains("\n0 Z ")
         || !log.ends_with('\n')
     {
-        return Err(Fail::new(format_args!("{lost} and {lines} lines")));
+        return Err(Fail::new(format_args!(
+            "wanted one gap and all lines, came {lost} lost lines and {lines} lines of link 0"
+        )));
     }
     Ok((u128::try_from(before.lines().count())? + 1, lost))
 }
@@ -134,7 +138,7 @@ impl Trouble {
         if is_right {
             Ok(())
         } else {
-            Err(Fail::new(told))
+            Err(Fail::new(format_args!("wanted {lost} lost lines, came {told}")))
         }
     }
 }

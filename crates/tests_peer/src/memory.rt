@@ -1,5 +1,6 @@
 //! Texts that one thread writes and others read meanwhile.
 
+use crate::unmet::Unmet;
 use std::alloc::{AllocError, Global};
 use std::io::Write;
 use std::rt::Clock;
@@ -26,29 +27,35 @@ fn has_text(octets: &[u8], seen: usize, wanted: &str) -> bool {
     }
 }
 
-/// Waits until a text has this in it. `None`: it hadn't in time.
-pub fn await_text<R: Wait + Clock>(rt: &R, text: &Text, wanted: &str) -> Option<()> {
+/// Waits until a text, the log or the like, has this in it. It is an error if it hadn't in time.
+pub fn await_text<R: Wait + Clock>(
+    rt: &R,
+    alloc: Global,
+    name: &str,
+    text: &Text,
+    wanted: &str,
+) -> Result<(), Unmet> {
     // What was looked at, except what may be the beginning.
     let mut seen: usize = 0;
     for _ in 0..MOST_LOOKS {
         let octets = text.lock(rt);
         if has_text(octets.as_slice(), seen, wanted) {
-            return Some(());
+            return Ok(());
         }
         seen = octets.len().saturating_sub(wanted.len());
         drop(octets);
         thread::sleep(rt, Duration::from_millis(20));
     }
-    None
+    Err(Unmet::missing(alloc, name, wanted, seen))
 }
 
-/// `None`: a text has this in it.
-pub fn lacks_text<R: Wait>(rt: &R, text: &Text, unwanted: &str) -> Option<()> {
+/// It is an error if a text has this in it.
+pub fn lacks_text<R: Wait>(rt: &R, text: &Text, unwanted: &str) -> Result<(), Unmet> {
     let octets = text.lock(rt);
     if has_text(octets.as_slice(), 0, unwanted) {
-        None
+        Err(Unmet::Failed("a line came that may not come yet"))
     } else {
-        Some(())
+        Ok(())
     }
 }
 

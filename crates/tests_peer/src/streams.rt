@@ -3,6 +3,7 @@
 use crate::device::{Device, Mood};
 use crate::memory::{Shared, Text, await_text, lacks_text, text};
 use crate::typed::{Given, Typed, given};
+use crate::unmet::Unmet;
 use std::alloc::{AllocError, Global};
 use std::net::SocketAddr;
 use std::rt::Clock;
@@ -77,45 +78,55 @@ impl Streams {
         Typed::new(rt, &self.commands)
     }
 
-    /// Waits until the run reports its address, and gives it. `None`: it hadn't in time.
-    pub fn address<R: Wait + Clock>(&self, rt: &R) -> Option<SocketAddr> {
+    /// Waits until the run reports its address, and gives it. It is an error if it hadn't in time.
+    pub fn address<R: Wait + Clock>(&self, rt: &R) -> Result<SocketAddr, Unmet> {
         for _ in 0..MOST_LOOKS {
             if let Some(address) = address_in(self.output.lock(rt).as_slice()) {
-                return Some(address);
+                return Ok(address);
             }
             thread::sleep(rt, Duration::from_millis(20));
         }
-        None
+        Err(Unmet::Failed("the run reported no address in time"))
     }
 
-    /// Waits until the log has this in it. `None`: it hadn't in time.
-    pub fn await_log<R: Wait + Clock>(&self, rt: &R, wanted: &str) -> Option<()> {
-        await_text(rt, &self.log, wanted)
+    /// Waits until the log has this in it. It is an error if it hadn't in time.
+    pub fn await_log<R: Wait + Clock>(
+        &self,
+        rt: &R,
+        alloc: Global,
+        wanted: &str,
+    ) -> Result<(), Unmet> {
+        await_text(rt, alloc, "log", &self.log, wanted)
     }
 
-    /// `None`: the log has this in it.
-    pub fn lacks_in_log<R: Wait>(&self, rt: &R, unwanted: &str) -> Option<()> {
+    /// It is an error if the log has this in it.
+    pub fn lacks_in_log<R: Wait>(&self, rt: &R, unwanted: &str) -> Result<(), Unmet> {
         lacks_text(rt, &self.log, unwanted)
     }
 
-    /// Waits until the errors have this in them. `None`: they hadn't in time.
-    pub fn await_errors<R: Wait + Clock>(&self, rt: &R, wanted: &str) -> Option<()> {
-        await_text(rt, &self.errors, wanted)
+    /// Waits until the errors have this in them. It is an error if they hadn't in time.
+    pub fn await_errors<R: Wait + Clock>(
+        &self,
+        rt: &R,
+        alloc: Global,
+        wanted: &str,
+    ) -> Result<(), Unmet> {
+        await_text(rt, alloc, "events", &self.errors, wanted)
     }
 
-    /// Waits until the log has at least this number of octets. `None`: it hadn't in time.
-    pub fn await_octets<R: Wait + Clock>(&self, rt: &R, count: usize) -> Option<()> {
+    /// Waits until the log has at least this number of octets. It is an error if it hadn't in time.
+    pub fn await_octets<R: Wait + Clock>(&self, rt: &R, count: usize) -> Result<(), Unmet> {
         for _ in 0..MOST_LOOKS {
             if self.log.lock(rt).len() >= count {
-                return Some(());
+                return Ok(());
             }
             thread::sleep(rt, Duration::from_millis(20));
         }
-        None
+        Err(Unmet::Failed("the log hadn't enough octets in time"))
     }
 
-    /// Waits until the log hasn't grown for two seconds. `None`: it grew all the time.
-    pub fn await_still_log<R: Wait + Clock>(&self, rt: &R) -> Option<()> {
+    /// Waits until the log hasn't grown for two seconds. It is an error if it grew all the time.
+    pub fn await_still_log<R: Wait + Clock>(&self, rt: &R) -> Result<(), Unmet> {
         let mut count = 0;
         let mut still: u32 = 0;
         for _ in 0..MOST_LOOKS {
@@ -126,18 +137,20 @@ impl Streams {
                 0
             };
             if still >= STILL_LOOKS {
-                return Some(());
+                return Ok(());
             }
             count = now;
             thread::sleep(rt, Duration::from_millis(20));
         }
-        None
+        Err(Unmet::Failed("the log grew all the time"))
     }
 
-    /// Gives the run commands. `None`: it takes none.
-    pub fn command<R: Wait>(&self, rt: &R, text: &str) -> Option<()> {
+    /// Gives the run commands. It is an error if it takes none.
+    pub fn command<R: Wait>(&self, rt: &R, text: &str) -> Result<(), Unmet> {
         let mut commands = self.commands.lock(rt);
-        commands.as_mut()?.extend_from_slice(text.as_bytes()).ok()
+        let given = commands.as_mut().ok_or("the run takes no commands")?;
+        given.extend_from_slice(text.as_bytes())?;
+        Ok(())
     }
 
     /// From now on the device of the log has this mood.

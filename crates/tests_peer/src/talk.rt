@@ -1,6 +1,7 @@
 //! What clients say, and what has to be answered.
 
 use crate::client::Client;
+use crate::unmet::Unmet;
 use std::alloc::{AllocError, Global};
 use std::net::{Net, SocketAddr, TcpStream};
 
@@ -43,14 +44,14 @@ pub(crate) fn answer(alloc: Global, identifier: u32) -> Result<String, AllocErro
     format!(in alloc; "641D4904{identifier:08X}6C15A113020101020114300BA009040783100322324304")
 }
 
-/// Reads the answer to the Begin from this identifier. `None`: something else came.
-pub(crate) fn answers(alloc: Global, client: &mut Client, identifier: u32) -> Option<()> {
-    client.expect(alloc, answer(alloc, identifier).ok()?.as_str())
+/// Reads the answer to the Begin from this identifier. It is an error if something else came.
+pub(crate) fn answers(alloc: Global, client: &mut Client, identifier: u32) -> Result<(), Unmet> {
+    client.expect(alloc, answer(alloc, identifier)?.as_str())
 }
 
-/// Makes a call from this identifier. `None`: something else came than its answer.
-pub(crate) fn calls(alloc: Global, client: &mut Client, identifier: u32) -> Option<()> {
-    client.write_text(alloc, begin(alloc, identifier).ok()?.as_str())?;
+/// Makes a call from this identifier. It is an error if something else came than its answer.
+pub(crate) fn calls(alloc: Global, client: &mut Client, identifier: u32) -> Result<(), Unmet> {
+    client.write_text(alloc, begin(alloc, identifier)?.as_str())?;
     answers(alloc, client, identifier)
 }
 
@@ -137,71 +138,86 @@ fn five_frames(alloc: Global) -> Result<String, AllocError> {
 }
 
 /// Reads the messages that answer them, and gives them by their tags and lengths.
-fn five_messages(alloc: Global, client: &mut Client) -> Option<Vec<String>> {
+fn five_messages(alloc: Global, client: &mut Client) -> Result<Vec<String>, Unmet> {
     let mut messages = Vec::new(alloc);
     for _ in 0..5 {
-        messages.push(client.message(alloc)?).ok()?;
+        messages.push(client.message(alloc)?)?;
     }
     messages.sort_unstable();
-    Some(messages)
+    Ok(messages)
 }
 
-/// `None`: the message in this place isn't the wanted one.
-fn is_at(messages: &[String], place: usize, wanted: &str) -> Option<()> {
-    if messages.get(place)?.as_str() == wanted {
-        Some(())
-    } else {
-        None
-    }
+/// The message of a client in this place must be this one.
+fn is_at(
+    alloc: Global,
+    client: usize,
+    messages: &[String],
+    place: usize,
+    wanted: &str,
+) -> Result<(), Unmet> {
+    let came = messages.get(place).ok_or("fewer than five messages")?;
+    Unmet::unless_same(alloc, client, wanted, came.as_str())
 }
 
-/// The local identifier of the dialogue that goes on. `None`: these aren't the messages that have to come.
-fn opened_in(alloc: Global, messages: &[String]) -> Option<String> {
-    let local = messages.get(3)?.get(8..16)?;
-    let passed = format!(in alloc; "6410490400000103{PASSED}").ok()?;
-    is_at(messages, 0, passed.as_str())?;
-    let refused = format!(in alloc; "6414490400000102{REFUSED}").ok()?;
-    is_at(messages, 1, refused.as_str())?;
-    is_at(messages, 2, answer(alloc, 0x100).ok()?.as_str())?;
-    let led = connection(alloc, local, "01", "02", "4304").ok()?;
-    is_at(messages, 3, led.as_str())?;
-    is_at(messages, 4, ABORTED)?;
-    String::from_str(alloc, local).ok()
+/// The local identifier in the fourth of these messages.
+fn local_in(messages: &[String]) -> Option<&str> {
+    messages.get(3)?.get(8..16)
+}
+
+/// The local identifier of the dialogue that goes on. It is an error if these aren't the messages that have to come.
+fn opened_in(alloc: Global, client: usize, messages: &[String]) -> Result<String, Unmet> {
+    let local = local_in(messages).ok_or("no local identifier in the fourth of five messages")?;
+    let passed = format!(in alloc; "6410490400000103{PASSED}")?;
+    is_at(alloc, client, messages, 0, passed.as_str())?;
+    let refused = format!(in alloc; "6414490400000102{REFUSED}")?;
+    is_at(alloc, client, messages, 1, refused.as_str())?;
+    is_at(alloc, client, messages, 2, answer(alloc, 0x100)?.as_str())?;
+    let led = connection(alloc, local, "01", "02", "4304")?;
+    is_at(alloc, client, messages, 3, led.as_str())?;
+    is_at(alloc, client, messages, 4, ABORTED)?;
+    Ok(String::from_str(alloc, local)?)
 }
 
 /// Opens a dialogue for a number of each kind, sends a Continue to a dialogue that doesn't exist, and reads what comes;
-/// gives the local identifier of the dialogue that goes on. `None`: something else came than has to.
-fn open_four(alloc: Global, client: &mut Client) -> Option<String> {
-    client.write_text(alloc, five_frames(alloc).ok()?.as_str())?;
+/// gives the local identifier of the dialogue that goes on.
+fn open_four(alloc: Global, client: &mut Client) -> Result<String, Unmet> {
+    client.write_text(alloc, five_frames(alloc)?.as_str())?;
     let messages = five_messages(alloc, client)?;
-    opened_in(alloc, messages.as_slice())
+    opened_in(alloc, client.number(), messages.as_slice())
 }
 
-/// The dialogue of this local identifier goes on: its first place is busy, and its second one doesn't answer. `None`:
-/// something else came than has to.
-fn goes_through_both(alloc: Global, client: &mut Client, local: &str) -> Option<()> {
-    client.write_text(alloc, report(alloc, local, "02", "05").ok()?.as_str())?;
-    let second = connection(alloc, local, "03", "04", "5305").ok()?;
+/// The dialogue of this local identifier goes on: its first place is busy, and its second one doesn't answer.
+fn goes_through_both(alloc: Global, client: &mut Client, local: &str) -> Result<(), Unmet> {
+    client.write_text(alloc, report(alloc, local, "02", "05")?.as_str())?;
+    let second = connection(alloc, local, "03", "04", "5305")?;
     client.expect(alloc, second.as_str())?;
-    client.write_text(alloc, report(alloc, local, "03", "06").ok()?.as_str())?;
+    client.write_text(alloc, report(alloc, local, "03", "06")?.as_str())?;
     client.expect(alloc, RELEASED)
 }
 
 /// Makes a call of each kind on a connection of its own, of which one goes on through both of its places. Gives the
-/// link that the dialogues were opened on. `None`: something else came than has to.
+/// link that the dialogues were opened on.
 pub(crate) fn all_kinds<R: Net<Stream = TcpStream>>(
     rt: &R,
     alloc: Global,
     address: SocketAddr,
-) -> Option<u64> {
-    let mut client = Client::connect(rt, address)?;
+    number: usize,
+) -> Result<u64, Unmet> {
+    let mut client = Client::connect(rt, address, number)?;
     let local = open_four(alloc, &mut client)?;
     goes_through_both(alloc, &mut client, local.as_str())?;
-    let number = u32::from_str_radix(local.as_str(), 16).ok()?;
+    let identifier = u32::from_str_radix(local.as_str(), 16)
+        .ok()
+        .ok_or("no identifier")?;
     // The second dialogue of its link.
-    if number & 0x1FFF_FFFF == 2 {
-        Some(u64::from(number >> 29))
+    if identifier & 0x1FFF_FFFF == 2 {
+        Ok(u64::from(identifier >> 29))
     } else {
-        None
+        Err(Unmet::differs(
+            alloc,
+            number,
+            "the second identifier of a link",
+            local.as_str(),
+        ))
     }
 }

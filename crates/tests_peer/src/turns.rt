@@ -2,7 +2,8 @@
 
 use crate::client::Client;
 use crate::streams::Streams;
-use crate::talk::{END, REJECT, answer, answers, begin, continues, long_begin};
+use crate::talk::{END, REJECT, answers, begin, continues, long_begin};
+use crate::unmet::Unmet;
 use std::alloc::Global;
 use std::net::{Net, TcpStream};
 use std::rt::Clock;
@@ -12,24 +13,21 @@ use std::test::Fail;
 use std::thread;
 use std::time::Duration;
 
-/// Makes two calls at once, and marks that the first answer came. `None`: that isn't the answer to the second call, or
-/// the next one isn't that to the first.
+/// Makes two calls at once, and marks that the first answer came. It is an error if that isn't the answer to
+/// the second call, or if the next one isn't that to the first.
 pub(crate) fn two_calls<R: Net<Stream = TcpStream> + Wait + Clock>(
     rt: &R,
     alloc: Global,
     streams: &Streams,
     is_answered: &AtomicBool,
-) -> Option<()> {
-    let mut client = Client::connect(rt, streams.address(rt)?)?;
-    client.write_text(alloc, begin(alloc, 0x2A).ok()?.as_str())?;
-    client.write_text(alloc, begin(alloc, 0x2B).ok()?.as_str())?;
-    let first = client.message(alloc)?;
+) -> Result<(), Unmet> {
+    let mut client = Client::connect(rt, streams.address(rt)?, 0)?;
+    client.write_text(alloc, begin(alloc, 0x2A)?.as_str())?;
+    client.write_text(alloc, begin(alloc, 0x2B)?.as_str())?;
+    let first = answers(alloc, &mut client, 0x2B);
     is_answered.store(true, Ordering::SeqCst);
-    if first.as_str() == answer(alloc, 0x2B).ok()?.as_str() {
-        answers(alloc, &mut client, 0x2A)
-    } else {
-        None
-    }
+    first?;
+    answers(alloc, &mut client, 0x2A)
 }
 
 /// Opens a dialogue and gives it 80 entries, all in one write, reads its answer, and ends it.
@@ -37,12 +35,10 @@ pub(crate) fn fill_dialogue<R: Net<Stream = TcpStream> + Wait + Clock>(
     rt: &R,
     alloc: Global,
     streams: &Streams,
-) -> Option<()> {
-    let mut client = Client::connect(rt, streams.address(rt)?)?;
-    let mut frames = long_begin(alloc).ok()?;
-    frames
-        .push_str(continues(alloc, REJECT, 5).ok()?.as_str())
-        .ok()?;
+) -> Result<(), Unmet> {
+    let mut client = Client::connect(rt, streams.address(rt)?, 0)?;
+    let mut frames = long_begin(alloc)?;
+    frames.push_str(continues(alloc, REJECT, 5)?.as_str())?;
     client.write_text(alloc, frames.as_str())?;
     client.message(alloc)?;
     // Not before, since an End drops an answer that waits to be sent.
@@ -68,15 +64,15 @@ impl Door {
         }
     }
 
-    /// Waits until a turn has reached it. `None`: none did in time.
-    fn await_turn<R: Clock>(&self, rt: &R) -> Option<()> {
+    /// Waits until a turn has reached it. It is an error if none did in time.
+    fn await_turn<R: Clock>(&self, rt: &R) -> Result<(), Unmet> {
         for _ in 0..MOST_MILLISECONDS {
             if self.is_reached.load(Ordering::SeqCst) {
-                return Some(());
+                return Ok(());
             }
             thread::sleep(rt, Duration::from_millis(1));
         }
-        None
+        Err(Unmet::Failed("no turn reached the door in time"))
     }
 
     /// A turn reaches it, and waits until it is open, or for half a minute.
@@ -91,21 +87,21 @@ impl Door {
     }
 }
 
-/// Makes a call, gives the command to end while its turn waits, makes another one, and opens the door. `None`: the
-/// first answer isn't that to the first call.
+/// Makes a call, gives the command to end while its turn waits, makes another one, and opens the door. It is an
+/// error if the first answer isn't that to the first call.
 pub(crate) fn call_and_quit<R: Net<Stream = TcpStream> + Wait + Clock>(
     rt: &R,
     alloc: Global,
     streams: &Streams,
     door: &Door,
-) -> Option<()> {
-    let mut client = Client::connect(rt, streams.address(rt)?)?;
-    client.write_text(alloc, begin(alloc, 0x2A).ok()?.as_str())?;
+) -> Result<(), Unmet> {
+    let mut client = Client::connect(rt, streams.address(rt)?, 0)?;
+    client.write_text(alloc, begin(alloc, 0x2A)?.as_str())?;
     door.await_turn(rt)?;
     streams.command(rt, "quit\n")?;
     // Meanwhile the run reads it.
     thread::sleep(rt, Duration::from_millis(500));
-    client.write_text(alloc, begin(alloc, 0x2B).ok()?.as_str())?;
+    client.write_text(alloc, begin(alloc, 0x2B)?.as_str())?;
     door.is_open.store(true, Ordering::SeqCst);
     answers(alloc, &mut client, 0x2A)
 }

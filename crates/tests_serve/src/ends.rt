@@ -35,10 +35,11 @@ fn want_ending(outcome: &Outcome, ending: Ending) -> Result<(), Fail> {
     } else {
         None
     };
-    if outcome.fault != fault || fault.is_none() && outcome.replayed != outcome.told {
-        return Err(outcome.failure(outcome.replayed.as_slice()));
+    outcome.want_fault(fault)?;
+    if fault.is_some() {
+        return Ok(());
     }
-    Ok(())
+    outcome.want_replayed(told)
 }
 
 /// Each link ends by its cause, in time and for its reason, also one whose sending thread is blocked, since its client

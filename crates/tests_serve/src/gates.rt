@@ -64,7 +64,7 @@ fn each_turn_passes_the_gate_once(rt: HostRuntime) -> Result<(), Fail> {
         let passed = gate.passed.load(Ordering::SeqCst);
         assert!(rt;
             passed >= fewest && passed <= 500,
-            "turns that passed the gate"
+            "{passed} turns passed the gate, wanted {fewest} to 500"
         );
     }
     Ok(())
@@ -92,7 +92,10 @@ fn a_message_is_held_back(rt: HostRuntime) -> Result<(), Fail> {
     let outcome = run(&rt, rt.alloc(), &SlowGate { rt }, plan)?;
     outcome.want("link 0 accepted 81 served 83 sent 1\n")?;
     let apart = posted_apart(str::from_utf8(outcome.log.as_slice())?)?;
-    assert!(rt; apart >= 1_000, "posted {apart} milliseconds apart");
+    assert!(rt;
+        apart >= 1_000,
+        "posted {apart} milliseconds apart, wanted 1,000 or more"
+    );
     Ok(())
 }
 

@@ -35,7 +35,10 @@ fn a_call_is_answered(rt: HostRuntime) -> Result<(), Fail> {
     let after = milliseconds(&rt)?;
     outcome.want("link 0 accepted 1 served 2 sent 1\n")?;
     let moment = first_moment(outcome.log.as_slice())?;
-    assert!(rt; before <= moment && moment <= after, "not the time of day");
+    assert!(rt;
+        before <= moment && moment <= after,
+        "wanted a moment from {before} to {after}, came {moment}"
+    );
     Ok(())
 }
 

@@ -24,12 +24,12 @@ fn a_log_that_hangs_holds_nobody_up(rt: HostRuntime) -> Result<(), Fail> {
     // Its client looks at the clock after its end, on a busy machine some time later.
     assert!(rt;
         (4..30).contains(&seconds),
-        "the run ended after {seconds} seconds"
+        "wanted an end after 4 to 30 seconds, came after {seconds}"
     );
     let events = str::from_utf8(outcome.errors.as_slice())?;
     assert!(rt;
         outcome.log.is_empty() && events.contains("lines are lost\n"),
-        "a log, or no lost lines in {events}"
+        "wanted no log and an event of lost lines, came {events}"
     );
     Ok(())
 }
@@ -43,7 +43,8 @@ fn a_slow_log_holds_nobody_up(rt: HostRuntime) -> Result<(), Fail> {
     plan.wanted = Some(Wanted::LogFaults);
     let outcome = run(&rt, rt.alloc(), &OpenGate, plan)?;
     outcome.want("link 0 accepted 800 served 1600 sent 800\n")?;
-    assert!(rt; outcome.errors.is_empty(), "an event");
+    let events = str::from_utf8(outcome.errors.as_slice())?;
+    assert!(rt; events.is_empty(), "wanted no event, came {events}");
     Ok(())
 }
 
@@ -56,7 +57,9 @@ fn want_gap(alloc: Global, outcome: &Outcome, trouble: Trouble) -> Result<(), Fa
     let (gap, lost) = gap_in(str::from_utf8(outcome.log.as_slice())?)?;
     let end = outcome.replay_fault;
     if end != Some(ReplayFault::Gap(gap)) {
-        return Err(Fail::new(format_args!("a gap in line {gap}, the replay ended by {end:?}")));
+        return Err(Fail::new(format_args!(
+            "wanted the end of the replay at the gap in line {gap}, came {end:?}"
+        )));
     }
     let events = str::from_utf8(outcome.errors.as_slice())?;
     trouble.want_events(alloc, events, lost)

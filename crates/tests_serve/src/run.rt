@@ -77,17 +77,37 @@ pub(crate) struct Outcome {
 }
 
 impl Outcome {
-    /// A failure with this text, after the faults of the run and of its replay.
-    pub(crate) fn failure(&self, text: &[u8]) -> Fail {
+    /// A failure: another report of the links than the wanted one came from this.
+    fn failure(&self, from: &str, wanted: &str, came: &[u8]) -> Fail {
+        let came = str::from_utf8(came).unwrap_or("no text");
         let (fault, replay_fault) = (self.fault, self.replay_fault);
-        let text = str::from_utf8(text).unwrap_or("no text");
-        Fail::new(format_args!("run {fault:?}, replay {replay_fault:?}, {text}"))
+        Fail::new(format_args!(
+            "{from}: wanted {wanted:?}, came {came:?}; run fault {fault:?}, replay fault {replay_fault:?}"
+        ))
+    }
+
+    /// Fails unless the run ended with this fault, or with none.
+    pub(crate) fn want_fault(&self, wanted: Option<ServeFault>) -> Result<(), Fail> {
+        let came = self.fault;
+        if came != wanted {
+            return Err(Fail::new(format_args!("run: wanted the fault {wanted:?}, came {came:?}")));
+        }
+        Ok(())
     }
 
     /// Fails unless the run ended with this fault, or with none, and reported this of its links.
     pub(crate) fn want_told(&self, fault: Option<ServeFault>, wanted: &str) -> Result<(), Fail> {
-        if self.fault != fault || self.told.as_slice() != wanted.as_bytes() {
-            return Err(self.failure(self.told.as_slice()));
+        self.want_fault(fault)?;
+        if self.told.as_slice() != wanted.as_bytes() {
+            return Err(self.failure("run", wanted, self.told.as_slice()));
+        }
+        Ok(())
+    }
+
+    /// Fails unless the replay of the log reports this of the links.
+    pub(crate) fn want_replayed(&self, wanted: &str) -> Result<(), Fail> {
+        if self.replayed.as_slice() != wanted.as_bytes() {
+            return Err(self.failure("replay", wanted, self.replayed.as_slice()));
         }
         Ok(())
     }
@@ -96,10 +116,7 @@ impl Outcome {
     /// same.
     pub(crate) fn want(&self, wanted: &str) -> Result<(), Fail> {
         self.want_told(None, wanted)?;
-        if self.replayed.as_slice() != wanted.as_bytes() {
-            return Err(self.failure(self.replayed.as_slice()));
-        }
-        Ok(())
+        self.want_replayed(wanted)
     }
 }
 
@@ -199,7 +216,10 @@ where
     );
     finish(rt, &events);
     let log = streams.end(rt, alloc).ok_or("out of memory")?;
-    let played = played.ok_or("no answer, or another one")?;
+    let played = match played {
+        Ok(played) => played,
+        Err(unmet) => return Err(Fail::new(unmet)),
+    };
     let seconds_after = played.end.elapsed(rt)?.as_secs();
     let (replayed, replay_fault) = replayed(alloc, log.as_slice()).ok_or("out of memory")?;
     Ok(Outcome {

@@ -16,15 +16,18 @@ fn table(alloc: Global) -> Result<Table, Fail> {
 fn reload_up_to<R: Wait>(rt: &R, alloc: Global, tables: &Tables, last: u16) -> Result<(), Fail> {
     for index in 1..=u32::from(last) {
         if tables.reload(rt, table(alloc)?) != Some(index) {
-            return Err(Fail::new("refused too early"));
+            return Err(Fail::new(format_args!(
+                "wanted {last} tables, the table {index} is refused"
+            )));
         }
     }
     if tables.reload(rt, table(alloc)?).is_some() {
-        return Err(Fail::new("not refused"));
+        return Err(Fail::new(format_args!("wanted no table after {last}, it is taken")));
     }
     tables.free_replaced(rt);
-    if tables.table(rt)?.index() != last {
-        return Err(Fail::new("the last one didn't stay"));
+    let index = tables.table(rt)?.index();
+    if index != last {
+        return Err(Fail::new(format_args!("wanted the table {last} at the end, came {index}")));
     }
     Ok(())
 }
